@@ -1,0 +1,7 @@
+pub mod Octets
+pub mod Stored
+pub mod Spelling
+pub mod Totals
+pub mod WriteSteps
+pub mod ReadSteps
+pub mod Inverse

@@ -1,0 +1,52 @@
+-- the steps of reading a line
+use mathlib.Core.Path.{_≡_, refl, sym, _∙_, ap, ap₂}
+use mathlib.Core.List.{List, [], _∷_, _++_}
+use mathlib.Core.Bool.{true}
+use Prim.Native.Nat.{ℕ, _+_, _*_, _%_, _≤_, _<_}
+use native.Mathlib.Omega.{arith}
+use lib.Dec.{eqb, leb, ltb}
+use lib.ListN.{length, getD, set, take, drop}
+use Rattle.std.proofs.shelf.Lists.{append-assoc, length-take-le, take-more, drop-more, set-at}
+use Rattle.std.proofs.shelf.Ways.{tells}
+use Rattle.std.specs.declared.result.Result.the-variants.{Ok, Err}
+use Rattle.ihex.specs.Answers.{then}
+use Rattle.ihex.specs.Digits.{bytes, total, all-digits}
+use Rattle.ihex.specs.Reading.{digits-in, counted, summed, record-in, reading}
+use Rattle.ihex.specs.declared.fault.RecordFault.the-variants.{Count, Sum}
+
+-- one element more is copied
+pub copied-more : (xs o : List ℕ) (i : ℕ) → i < length xs → i < length o
+    → set (take i xs ++ drop i o) i (getD xs i 0) ≡ take (i + 1) xs ++ drop (i + 1) o
+copied-more xs o i lx lo =
+    let x : ℕ = getD xs i 0 in
+    ap (λ z. set (take i xs ++ z) i x) (drop-more o i 0 lo)
+    ∙ set-at (take i xs) (getD o i 0) (drop (i + 1) o) x i (length-take-le i xs (omega arith))
+    ∙ sym (append-assoc (take i xs) (x ∷ []) (drop (i + 1) o))
+    ∙ ap (λ p. p ++ drop (i + 1) o) (sym (take-more xs i 0 lx))
+
+-- each answer of the checks
+pub digits-found : (t : List ℕ) → 11 ≤ length t → getD t 0 0 ≡ 58 → all-digits (drop 1 t) ≡ true → digits-in t ≡ Ok (drop 1 t)
+digits-found t l c h = grind (arith, tells)
+
+module _ (ds : List ℕ) (n : ℕ) (e : getD (bytes ds) 0 0 ≡ n) where
+  pub count-large : 128 < n → counted ds ≡ Err Count
+  count-large h = grind (arith, tells)
+
+  pub count-other : (length ds ≡ 10 + 2 * n → ⊥) → counted ds ≡ Err Count
+  count-other h = grind (arith, tells)
+
+  pub count-good : n ≤ 128 → length ds ≡ 10 + 2 * n → counted ds ≡ Ok n
+  count-good h l = grind (arith, tells)
+
+pub sum-good : (bs : List ℕ) → total bs % 256 ≡ 0 → summed bs ≡ Ok bs
+sum-good bs h = grind (arith, tells)
+
+pub sum-bad : (bs : List ℕ) → (total bs % 256 ≡ 0 → ⊥) → summed bs ≡ Err Sum
+sum-bad bs h = grind (arith, tells)
+
+-- what is left once the digits and the count are found
+pub reading-counted : (t ds : List ℕ) (n : ℕ) → digits-in t ≡ Ok ds → counted ds ≡ Ok n
+    → reading t ≡ then (summed (bytes ds)) (record-in n)
+reading-counted t ds n hd hc =
+    ap (λ r. then r (λ ds. then (counted ds) (λ n. then (summed (bytes ds)) (record-in n)))) hd
+    ∙ ap (λ r. then r (λ n. then (summed (bytes ds)) (record-in n))) hc

@@ -1,0 +1,21 @@
+use mathlib.Core.Path.{_≡_, refl, sym, ap, _∙_}
+use mathlib.Core.List.{_++_}
+use Prim.Native.Nat.{_-_, _≤_}
+use native.Mathlib.Omega.{arith}
+use lib.ListN.{length, take, drop, replicate}
+use Rattle.std.proofs.shelf.Ways.{tells}
+use Rattle.ihex.proofs.Octets.{octets-from}
+use Rattle.ihex.proofs.Stored.{room, narrow, held, made-data}
+use Rattle.ihex.proofs.data_record.DataRecord.new.Needs as need
+
+pub ghost-result : need.ghost-result
+ghost-result c =
+    let ds = c .args .data .now in
+    let few = c .if-len-gt-MAX-DATA .left in
+    let e = c .copy-from-slice .ensures .after in
+    (c .fits .offset .fits, (c .if-len-lt1 .left, (few, (room ds _ few e, (narrow ds _ (octets-from ds (λ i. c .typed .data i .fits)) e, tt)))))
+
+pub returns : need.returns
+returns c =
+    let ds = c .args .data .now in
+    made-data (c .args .offset) ds _ (c .if-len-lt1 .left) (c .if-len-gt-MAX-DATA .left) (c .copy-from-slice .ensures .after)

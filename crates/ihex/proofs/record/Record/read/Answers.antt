@@ -1,0 +1,40 @@
+use mathlib.Core.Path.{_≡_, sym, ap, _∙_}
+use mathlib.Core.List.{_++_}
+use Prim.Native.Nat.{_+_, _-_, _/_}
+use native.Mathlib.Omega.{arith}
+use lib.ListN.{length, take}
+use Rattle.std.proofs.shelf.Lists.{take-at}
+use Rattle.ihex.specs.Answers.{then}
+use Rattle.ihex.specs.Digits.{bytes}
+use Rattle.ihex.specs.Reading.{record-in}
+use Rattle.ihex.proofs.Inverse.{canonical}
+use Rattle.ihex.proofs.ReadSteps.{sum-good, sum-bad, reading-counted}
+use Rattle.ihex.proofs.Spelling.{length-bytes}
+use Rattle.ihex.proofs.record.Record.read.Needs as need
+
+pub decode-requires : need.decode-requires
+decode-requires c κs =
+    let n = c .in-Continue-count .ensures tt .fits in
+    (c .in-Continue-digits .ensures tt .digits .0, omega (arith, n .0, n .1))
+
+pub returns-then-decode-ne0 : need.returns-then-decode-ne0
+returns-then-decode-ne0 c =
+    let ds = c .in-Continue-digits .digits .now in
+    let n = c .in-Continue-count .count in
+    let e = reading-counted (c .args .text .now) ds n (c .in-Continue-digits .ensures tt .answer) (sym (c .in-Continue-count .ensures tt .answer)) in
+    let z = sum-bad (bytes ds) (λ h. c .if-decode-ne0 .taken (c .decode .ensures .sum ∙ h)) in
+    record { answer = sym (e ∙ ap (λ a. then a (record-in n)) z); canonical = tt }
+
+pub returns : need.returns
+returns c =
+    let t = c .args .text .now in
+    let ds = c .in-Continue-digits .digits .now in
+    let n = c .in-Continue-count .count in
+    let fits = c .in-Continue-count .ensures tt .fits in
+    let e = reading-counted t ds n (c .in-Continue-digits .ensures tt .answer) (sym (c .in-Continue-count .ensures tt .answer)) in
+    let z = sum-good (bytes ds) (sym (c .decode .ensures .sum) ∙ c .if-decode-ne0 .left) in
+    let part : take (5 + n - 0) (c .decode .last .out) ≡ bytes ds =
+    ap (take (5 + n - 0)) (c .decode .ensures .out)
+    ∙ take-at (bytes ds) _ (5 + n - 0) (omega (arith, length-bytes ds, fits .1)) in
+    let answer = c .find-record .ensures ∙ ap (record-in n) part ∙ sym (e ∙ ap (λ a. then a (record-in n)) z) in
+    record { answer = answer; canonical = canonical t _ answer }

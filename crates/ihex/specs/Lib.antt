@@ -1,0 +1,7 @@
+pub mod Digits
+pub mod Answers
+pub mod Content
+pub mod Meaning
+pub mod Reading
+pub mod Writing
+pub mod Laws

@@ -1,0 +1,41 @@
+// Single digits and bytes of digits.
+
+ghost use mathlib.Core.Path.{_≡_};
+ghost use mathlib.Core.Bool.{true};
+ghost use Prim.Native.Nat.{_<_};
+ghost use Rattle.ihex.specs.Digits.{digit, is-digit, value, all-digits};
+
+// The character of a value below 16.
+pub(crate) fn digit_of(n: u8) -> u8
+    requires { ⌜ n < 16 ⌝ }
+    ensures { λ r. ⌜ r ≡ digit n ⌝ }
+{
+    if n < 10 { b'0' + n } else { b'A' - 10 + n }
+}
+
+// Whether a character is an upper-case digit.
+pub(crate) fn is_upper_digit(c: u8) -> bool
+    ensures { λ r. ⌜ r ≡ is-digit c ⌝ }
+{
+    c >= b'0' && c <= b'9' || c >= b'A' && c <= b'F'
+}
+
+pub(crate) fn value_of(c: u8) -> u8
+    requires { ⌜ is-digit c ≡ true ⌝ }
+    ensures value { λ r. ⌜ r ≡ value c ⌝ }
+    ensures small { λ r. ⌜ r < 16 ⌝ }
+{
+    if c <= b'9' { c - b'0' } else { c - (b'A' - 10) }
+}
+
+// Whether all characters are upper-case digits.
+pub(crate) fn are_digits(text: &[u8]) -> bool
+    ensures { λ r. ⌜ r ≡ all-digits (now (text .entry)) ⌝ }
+{
+    for c in text {
+        if !is_upper_digit(*c) {
+            return false;
+        }
+    }
+    true
+}
