@@ -6,21 +6,31 @@ use Prim.Native.Nat.{ℕ, suc, _+_, _*_, _/_, _%_, _≤_, _<_}
 use native.Mathlib.Omega.{arith}
 use lib.Dec.{eqb, leb, ltb}
 use lib.ListN.{length, getD, take, drop}
-use Rattle.std.proofs.shelf.Lists.{length-append, take-at, take-more, take-all, nil-from-length}
+use Rattle.std.proofs.shelf.Lists.{length-append, length-take-le, take-at, take-more, take-all, nil-from-length}
 use Rattle.std.proofs.shelf.Tests.{and-from, lt-ltb}
 use Rattle.std.proofs.shelf.Ways.{tells}
 use Rattle.std.specs.declared.result.Result.{Result}
 use Rattle.std.specs.declared.result.Result.the-variants.{Ok, Err}
-use Rattle.ihex.specs.Answers.{then}
+use Rattle.ihex.specs.Answers.{then, answer}
 use Rattle.ihex.specs.Content.{Content, data-at, end-of-file, fields, line, sum-byte, Sound}
 use Rattle.ihex.specs.Digits.{all-digits, digits, bytes, octets, total}
 use Rattle.ihex.specs.Laws.{Reads-back, Canonical}
+use Rattle.ihex.specs.Meaning.{content}
 use Rattle.ihex.specs.Reading.{digits-in, counted, summed, record-of, record-in, reading}
 use Rattle.ihex.specs.declared.fault.RecordFault.{RecordFault}
-use Rattle.ihex.proofs.Octets.{octets-append, octets-at}
+use Rattle.ihex.specs.declared.record.Record.{Record}
+use Rattle.ihex.specs.declared.record.Record.the-variants.{Data, End}
+use Rattle.ihex.proofs.Octets.{octets-append, octets-at, octets-take}
 use Rattle.ihex.proofs.ReadSteps.{digits-found, count-good, sum-good, reading-counted}
 use Rattle.ihex.proofs.Spelling.{length-digits, digits-are-digits, length-bytes, bytes-are-octets, bytes-digits, digits-bytes}
 use Rattle.ihex.proofs.Totals.{total-append, sum-byte-closes, sum-byte-alone}
+
+-- what a record of the program says can be said
+pub sound : (x : Record) → Sound (content x)
+sound (Data d) =
+    let n : length (take (d .len) (d .bytes)) ≡ d .len = length-take-le (d .len) (d .bytes) (omega (arith, d .few, d .room)) in
+    (d .fits, omega (arith, d .some), omega (arith, d .few), octets-take (d .len) (d .bytes) (d .narrow))
+sound End = tt
 
 data-found : (n offset : ℕ) (ds : List ℕ) → 1 ≤ length ds → length ds ≤ 128 → record-of n offset 0 ds ≡ Ok (data-at offset ds)
 data-found n offset ds some few = grind (arith, tells)
@@ -167,6 +177,6 @@ line-told t r h =
     first-then t (told-long t ds (p .1)) (told-colon t ds (p .1))
     ∙ ap (λ xs. 58 ∷ xs) (sym rest ∙ sym (digits-bytes ds all (omega arith)) ∙ ap digits s)
 
-pub canonical : (t : List ℕ) (a : Result Content RecordFault) → a ≡ reading t → Canonical t a
-canonical t (Ok r) e = line-told t r (sym e)
+pub canonical : (t : List ℕ) (a : Result Record RecordFault) → answer content a ≡ reading t → Canonical t (answer content a)
+canonical t (Ok x) e = (sound x, line-told t (content x) (sym e))
 canonical t (Err f) e = tt

@@ -8,13 +8,9 @@ use lib.Seq.{drop-cons}
 use Rattle.std.proofs.shelf.Lists.{append-assoc, length-append, length-take-le, take-more, take-append-drop, take-at, drop-at, drop-drop, set-at, set-append-right}
 use Rattle.std.proofs.shelf.Tests.{cond-true, cond-false, lt-ltb, le-ltb}
 use Rattle.std.specs.declared.result.Result.the-variants.{Ok, Err}
-use Rattle.ihex.specs.Content.{Content, data-at, end-of-file, fields, line, sum-byte, Sound}
+use Rattle.ihex.specs.Content.{Content, data-at, end-of-file, fields, line, sum-byte}
 use Rattle.ihex.specs.Digits.{digit, digits}
-use Rattle.ihex.specs.Meaning.{content}
 use Rattle.ihex.specs.Writing.{written, written-to}
-use Rattle.ihex.specs.declared.record.Record.{Record}
-use Rattle.ihex.specs.declared.record.Record.the-variants.{Data, End}
-use Rattle.ihex.proofs.Octets.{octets-take}
 use Rattle.ihex.proofs.Spelling.{digits-append, length-digits}
 
 -- two characters more at the end of what is written
@@ -111,10 +107,3 @@ module _ (r : Content) (out : List ℕ) where
       → (Ok (length (line r)) ≡ written r out) × (line r ++ drop (length (line r)) out ≡ written-to r out)
   written-whole h =
       (sym (cond-false _ _ _ (le-ltb _ _ h)), sym (cond-false _ out _ (le-ltb _ _ h)))
-
--- what a record of the program says can be said
-pub sound : (x : Record) → Sound (content x)
-sound (Data d) =
-    let n : length (take (d .len) (d .bytes)) ≡ d .len = length-take-le (d .len) (d .bytes) (omega (arith, d .few, d .room)) in
-    (d .fits, omega (arith, d .some), omega (arith, d .few), octets-take (d .len) (d .bytes) (d .narrow))
-sound End = tt

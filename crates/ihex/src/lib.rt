@@ -4,12 +4,10 @@
 mod data_record;
 mod digits;
 mod fault;
-mod making;
 mod reader;
 mod record;
 mod writer;
 
 pub use data_record::DataRecord;
-pub use fault::RecordFault;
-pub use fault::RecordRefusal;
+pub use fault::{RecordFault, RecordFaultDebug, RecordFaultEq, RecordFaultPartialEq, RecordRefusal};
 pub use record::Record;

@@ -2,6 +2,7 @@
 
 ghost use mathlib.Core.Path.{_≡_};
 ghost use Rattle.refusal.specs.Number.{number-of};
+ghost use Rattle.refusal.specs.declared.Refusal.the-variants as reason;
 
 // Every reason for which the product turns a call down. There is no other.
 // A layer has a fault type of its own, which turns into one of these.
@@ -39,3 +40,11 @@ impl Refusal {
 // A caller's buffer is shorter than what is to be written to it, so nothing is written.
 #[derive(Clone, Copy, PartialEq, Eq, Debug)]
 pub struct BufferTooShort;
+
+pub impl From<BufferTooShort> for Refusal as BufferRefusal {
+    ghost converts = { λ _ r. r ≡ reason.BufferTooShort };
+
+    fn from(_fault: BufferTooShort) -> Refusal {
+        Refusal::BufferTooShort
+    }
+}

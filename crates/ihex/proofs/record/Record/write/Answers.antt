@@ -8,9 +8,9 @@ use Rattle.std.specs.declared.result.Result.the-variants.{Ok}
 use Rattle.ihex.specs.Content.{line, fields, sum-byte}
 use Rattle.ihex.specs.Digits.{total}
 use Rattle.ihex.specs.Meaning.{content}
-use Rattle.ihex.proofs.Inverse.{reads-back}
+use Rattle.ihex.proofs.Inverse.{reads-back, sound}
 use Rattle.ihex.proofs.Totals.{total-append, sum-byte-alone}
-use Rattle.ihex.proofs.WriteSteps.{line-length, line-written, refused-short, written-whole, fields-parts, sound}
+use Rattle.ihex.proofs.WriteSteps.{line-length, line-written, refused-short, written-whole}
 use Rattle.ihex.proofs.record.Record.write.Needs as need
 
 pub returns-then-out-length : need.returns-then-out-length

@@ -1,0 +1,5 @@
+pub mod Faults
+pub mod Lines
+pub mod Files
+pub mod Views
+pub mod Surveys
