@@ -2,15 +2,23 @@
 
 ghost use mathlib.Core.Path.{_≡_};
 ghost use mathlib.Core.Bool.{true};
+ghost use mathlib.Core.List.{[], _∷_};
 ghost use Prim.Native.Nat.{_<_};
-ghost use Rattle.ihex.specs.Digits.{digit, is-digit, value, all-digits};
+ghost use Rattle.ihex.specs.Digits.{digit, digits, is-digit, value, all-digits};
 
 // The character of a value below 16.
-pub(crate) fn digit_of(n: u8) -> u8
+fn digit_of(n: u8) -> u8
     requires { ⌜ n < 16 ⌝ }
     ensures { λ r. ⌜ r ≡ digit n ⌝ }
 {
     if n < 10 { b'0' + n } else { b'A' - 10 + n }
+}
+
+// A byte's two digits, the high one first.
+pub fn digits_of(b: u8) -> [u8; 2]
+    ensures { λ r. ⌜ r ≡ digits (b ∷ []) ⌝ }
+{
+    [digit_of(b / 16), digit_of(b % 16)]
 }
 
 // Whether a character is an upper-case digit.

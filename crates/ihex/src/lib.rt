@@ -9,5 +9,10 @@ mod record;
 mod writer;
 
 pub use data_record::DataRecord;
-pub use fault::{RecordFault, RecordFaultDebug, RecordFaultEq, RecordFaultPartialEq, RecordRefusal};
+pub use digits::digits_of;
+pub use fault::RecordFault;
+pub use fault::RecordFaultDebug;
+pub use fault::RecordFaultEq;
+pub use fault::RecordFaultPartialEq;
+pub use fault::RecordRefusal;
 pub use record::Record;

@@ -9,7 +9,7 @@ ghost use Rattle.ihex.specs.Digits.{digit, digits, total};
 ghost use Rattle.ihex.specs.Laws.{Reads-back};
 ghost use Rattle.ihex.specs.Meaning.{content};
 ghost use Rattle.ihex.specs.Writing.{written, written-to};
-use crate::digits::digit_of;
+use crate::digits::digits_of;
 use crate::record::Record;
 use refusal::BufferTooShort;
 
@@ -19,8 +19,9 @@ fn write_byte(out: &mut [u8], at: usize, b: u8, sum: u8) -> u8
     ensures sum { λ r. ⌜ r ≡ (sum + b) % 256 ⌝ }
     ensures out { λ _. ⌜ now (out .exit) ≡ set (set (now (out .entry)) at (digit (b / 16))) (at + 1) (digit (b % 16)) ⌝ }
 {
-    out[at] = digit_of(b / 16);
-    out[at + 1] = digit_of(b % 16);
+    let [high, low] = digits_of(b);
+    out[at] = high;
+    out[at + 1] = low;
     sum.wrapping_add(b)
 }
 

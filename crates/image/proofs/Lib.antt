@@ -1,3 +1,4 @@
 pub mod Closing
 pub mod Heads
 pub mod Tallies
+pub mod Texts

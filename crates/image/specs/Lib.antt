@@ -3,3 +3,4 @@ pub mod Lines
 pub mod Files
 pub mod Views
 pub mod Surveys
+pub mod Prints

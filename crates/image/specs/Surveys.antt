@@ -4,15 +4,14 @@ use mathlib.Core.List.{List, [], _∷_, _++_}
 use mathlib.Core.Bool.{true, false}
 use Prim.Native.Nat.{ℕ, _+_, _≤_, min, max}
 use lib.ListN.{length}
-use Rattle.std.specs.declared.option.Option.{Option}
-use Rattle.std.specs.declared.option.Option.the-variants.{Some, None}
 use Rattle.std.specs.declared.result.Result.{Result}
 use Rattle.std.specs.declared.result.Result.the-variants.{Ok, Err}
 use Rattle.std.specs.shelf.Lists.{All}
 use Rattle.ihex.specs.Content.{Content, data-at, end-of-file, Sound}
 use Rattle.image.specs.Files.{file, first-record}
+use Rattle.image.specs.declared.offsets.Offsets.{Offsets}
+use Rattle.image.specs.declared.offsets.Offsets.the-variants.{None, Between}
 use Rattle.image.specs.declared.refused.Refused.{Refused}
-use Rattle.image.specs.declared.survey.Span.{Span}
 use Rattle.image.specs.declared.survey.Survey.{Survey}
 
 -- the data bytes of a record
@@ -21,21 +20,22 @@ bytes-in (data-at offset ds) = length ds
 bytes-in end-of-file = 0
 
 abbrev pub nothing-yet : Survey
-nothing-yet = record { records = 0; bytes = 0; span = None; ended = false }
+nothing-yet = record { records = 0; bytes = 0; offsets = None; ended = false }
 
 -- the lowest and the highest offset, with one more
-abbrev pub widened : Option Span → ℕ → Span
-widened None offset = record { lowest = offset; highest = offset }
-widened (Some s) offset = record { lowest = min (s .lowest) offset; highest = max (s .highest) offset }
+abbrev pub widened : Offsets → ℕ → Offsets
+widened None offset = Between offset offset
+widened (Between lowest highest) offset = Between (min lowest offset) (max highest offset)
 
 -- one record more
 abbrev pub added : Survey → Content → Survey
 added s (data-at offset ds) = record {
-    records = s .records + 1;
-    bytes = s .bytes + length ds;
-    span = Some (widened (s .span) offset);
-    ended = s .ended }
-added s end-of-file = record { records = s .records; bytes = s .bytes; span = s .span; ended = true }
+  records = s .records + 1;
+  bytes = s .bytes + length ds;
+  offsets = widened (s .offsets) offset;
+  ended = s .ended;
+}
+added s end-of-file = record { records = s .records; bytes = s .bytes; offsets = s .offsets; ended = true }
 
 abbrev pub tally-from : Survey → List Content → Survey
 tally-from s [] = s

@@ -5,7 +5,8 @@ ghost use Rattle.std.specs.Vec.{made};
 ghost use Rattle.ihex.specs.Answers.{answer};
 ghost use Rattle.image.specs.Files.{first-record, Begins};
 ghost use Rattle.image.specs.Views.{entry-of};
-use crate::fault::{ImageFault, ImageFromRecord};
+use crate::fault::ImageFault;
+use crate::fault::ImageFromRecord;
 use crate::line::next_line;
 use ihex::Record;
 
@@ -24,5 +25,8 @@ pub fn next_record(text: &[u8]) -> Result<Entry, ImageFault>
 {
     let line = next_line(text)?;
     let record = Record::read(line.text)?;
-    Ok(Entry { record, size: line.text.len() + 2 })
+    Ok(Entry {
+        record,
+        size: line.text.len() + 2,
+    })
 }

@@ -1,7 +1,11 @@
 ghost use mathlib.Core.Path.{_≡_};
 ghost use Rattle.image.specs.Faults.{refusal-of};
 ghost use Rattle.image.specs.declared.fault.ImageFault.the-variants.{Record};
-use ihex::{RecordFault, RecordFaultDebug, RecordFaultEq, RecordFaultPartialEq, RecordRefusal};
+use ihex::RecordFault;
+use ihex::RecordFaultDebug;
+use ihex::RecordFaultEq;
+use ihex::RecordFaultPartialEq;
+use ihex::RecordRefusal;
 use refusal::Refusal;
 
 // Why a text does not begin with a line of an image file.

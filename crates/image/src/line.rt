@@ -8,6 +8,7 @@ ghost use Rattle.image.specs.Views.{cut-of};
 use crate::fault::ImageFault;
 
 const CR: u8 = b'\r';
+
 const LF: u8 = b'\n';
 
 // The most characters before a line's CR LF: those of a record with the most data.
@@ -28,7 +29,10 @@ pub fn next_line(text: &[u8]) -> Result<Line<'_>, ImageFault>
     let places = text.len().saturating_sub(1).min(MAX_LINE + 1);
     for i in 0..places {
         if text[i] == CR && text[i + 1] == LF {
-            return Ok(Line { text: &text[0..i], rest: &text[i + 2..] });
+            return Ok(Line {
+                text: &text[0..i],
+                rest: &text[i + 2..],
+            });
         }
     }
     Err(ImageFault::Line)

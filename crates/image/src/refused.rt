@@ -1,4 +1,8 @@
-use crate::fault::{ImageFault, ImageFaultDebug, ImageRefusal};
+ghost use Rattle.std.specs.declared.option.Option.the-variants.{Some};
+ghost use Rattle.image.specs.Prints.{refused-text};
+use crate::fault::ImageFault;
+use crate::fault::ImageFaultDebug;
+use crate::fault::ImageRefusal;
 use refusal::Refusal;
 use std::fmt;
 
@@ -10,6 +14,8 @@ pub struct Refused {
 }
 
 pub impl fmt::Display for Refused as RefusedDisplay {
+    ghost shown = { λ x. Some (refused-text x) };
+
     fn fmt<W: fmt::Write>(&self, f: &mut fmt::Formatter<W>) -> fmt::Result {
         let line = self.line;
         let number = Refusal::from(self.fault).number();

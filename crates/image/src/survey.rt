@@ -1,19 +1,19 @@
 ghost use mathlib.Core.Path.{_≡_};
 ghost use Prim.Native.Nat.{_+_, _<_, _^_};
 ghost use lib.ListN.{length};
+ghost use Rattle.std.specs.declared.option.Option.the-variants.{Some};
 ghost use Rattle.ihex.specs.Meaning.{content};
-ghost use Rattle.image.specs.Surveys.{nothing-yet, widened, added, Surveyed, bytes-in};
+ghost use Rattle.image.specs.Prints.{survey-text};
+ghost use Rattle.image.specs.Surveys.{nothing-yet, added, Surveyed, bytes-in};
 use crate::entry::next_record;
+use crate::offsets::Offsets;
+use crate::offsets::OffsetsDebug;
+use crate::offsets::OffsetsDisplay;
+use crate::offsets::OffsetsEq;
+use crate::offsets::OffsetsPartialEq;
 use crate::refused::Refused;
 use ihex::Record;
 use std::fmt;
-
-// The lowest and the highest offset of some data records.
-#[derive(Clone, Copy, PartialEq, Eq, Debug)]
-pub struct Span {
-    pub lowest: u16,
-    pub highest: u16,
-}
 
 // What a file holds in all.
 #[derive(Clone, Copy, PartialEq, Eq, Debug)]
@@ -21,30 +21,21 @@ pub struct Survey {
     // data records, and the bytes in them
     pub records: usize,
     pub bytes: usize,
-    // their offsets, if there are any
-    pub span: Option<Span>,
+    pub offsets: Offsets,
     // whether an end record came
     pub ended: bool,
-}
-
-// The span with one offset more.
-fn widen(span: Option<Span>, offset: u16) -> Span
-    ensures { λ r. ⌜ r ≡ widened span offset ⌝ }
-{
-    match span {
-        None => Span { lowest: offset, highest: offset },
-        Some(span) => Span {
-            lowest: span.lowest.min(offset),
-            highest: span.highest.max(offset),
-        },
-    }
 }
 
 impl Survey {
     fn new() -> Self
         ensures { λ r. ⌜ r ≡ nothing-yet ⌝ }
     {
-        Survey { records: 0, bytes: 0, span: None, ended: false }
+        Survey {
+            records: 0,
+            bytes: 0,
+            offsets: Offsets::None,
+            ended: false,
+        }
     }
 
     fn add(&mut self, record: &Record)
@@ -55,7 +46,7 @@ impl Survey {
             Record::Data(data) => {
                 self.records += 1;
                 self.bytes += data.data().len();
-                self.span = Some(widen(self.span, data.offset()));
+                self.offsets = self.offsets.with(data.offset());
             }
             Record::End => self.ended = true,
         }
@@ -83,19 +74,19 @@ impl Survey {
 }
 
 pub impl fmt::Display for Survey as SurveyDisplay {
+    ghost shown = { λ s. Some (survey-text s) };
+
     fn fmt<W: fmt::Write>(&self, f: &mut fmt::Formatter<W>) -> fmt::Result {
-        let records = self.records;
-        let bytes = self.bytes;
-        writeln!(f, "data records: {records}")?;
-        writeln!(f, "bytes: {bytes}")?;
-        match self.span {
-            Some(Span { lowest, highest }) => {
-                writeln!(f, "lowest offset: {lowest:04X}h")?;
-                writeln!(f, "highest offset: {highest:04X}h")?;
-            }
-            None => writeln!(f, "no offsets")?,
-        }
-        let ended = if self.ended { "yes" } else { "no" };
-        write!(f, "end record: {ended}")
+        let Survey {
+            records,
+            bytes,
+            offsets,
+            ended,
+        } = *self;
+        let ended = if ended { "yes" } else { "no" };
+        write!(
+            f,
+            "data records: {records}\nbytes: {bytes}\n{offsets}\nend record: {ended}"
+        )
     }
 }

@@ -19,5 +19,6 @@ returns c =
     record {
       within = begins-within t _ b;
       answer = sym (ap (λ a. then a (λ c. record-of-line (length (c .line)) (reading (c .line)))) cut
-                    ∙ ap (record-of-line (length (k .line))) (sym (read .answer)));
-      canonical = b }
+          ∙ ap (record-of-line (length (k .line))) (sym (read .answer)));
+      canonical = b;
+    }

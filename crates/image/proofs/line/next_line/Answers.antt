@@ -18,9 +18,10 @@ returns-then-text-i-eq-LF c =
     let n : i - 0 ≡ i = omega arith in
     record {
       answer =
-        ap₂ (λ k r. Ok (record { line = take k t; rest = r })) n (take-rest t (i + 2))
-        ∙ line-found t i (c .loop-i .inv ∙ close-found t i l (c .if-text-i-eq-CR .taken) (c .if-text-i-eq-LF .taken)) (omega arith);
-      few = simp length-take (omega arith) }
+          ap₂ (λ k r. Ok (record { line = take k t; rest = r })) n (take-rest t (i + 2))
+          ∙ line-found t i (c .loop-i .inv ∙ close-found t i l (c .if-text-i-eq-CR .taken) (c .if-text-i-eq-LF .taken)) (omega arith);
+      few = simp length-take (omega arith);
+    }
 
 pub loop-i-again : need.loop-i-again
 loop-i-again c =
@@ -28,8 +29,9 @@ loop-i-again c =
     let i = c .loop-i .i in
     let l : i < length t = omega arith in
     elim (c .else-text-i-eq-CR .came) [
-      else-text-i-eq-CR·by·then-text-i-eq-CR·else-text-i-eq-LF w ↦ c .loop-i .inv ∙ close-no-lf t i l (w .if-text-i-eq-LF .left)
-    | else-text-i-eq-CR·by·else-text-i-eq-CR w ↦ c .loop-i .inv ∙ close-no-cr t i l (w .if-text-i-eq-CR .left) ]
+      | else-text-i-eq-CR·by·then-text-i-eq-CR·else-text-i-eq-LF w ↦ c .loop-i .inv ∙ close-no-lf t i l (w .if-text-i-eq-LF .left)
+      | else-text-i-eq-CR·by·else-text-i-eq-CR w ↦ c .loop-i .inv ∙ close-no-cr t i l (w .if-text-i-eq-CR .left)
+    ]
 
 pub returns : need.returns
 returns c =

@@ -20,9 +20,10 @@ add-requires c κs =
     let r = content (c .in-Ok .entry .record) in
     let b = c .in-Ok .ensures tt in
     let all = ap length (inv .2) in
-    let size = length-append (file rs) (c .loop-rest .rest .now) in
-    (omega (arith, ap (λ s. s .records) (inv .3), tally-records rs, file-lines rs, all, size, b .within, b .canonical .1, closed-long r),
-     omega (arith, ap (λ s. s .bytes) (inv .3), tally-bytes rs, all, size, b .within, b .canonical .1, closed-long r))
+    let size = length-append (file rs) (c .loop-rest .rest .now) in (
+      omega (arith, ap (λ s. s .records) (inv .3), tally-records rs, file-lines rs, all, size, b .within, b .canonical .1, closed-long r),
+      omega (arith, ap (λ s. s .bytes) (inv .3), tally-bytes rs, all, size, b .within, b .canonical .1, closed-long r),
+    )
 
 pub add-line : need.add-line
 add-line c =
@@ -37,12 +38,13 @@ loop-rest-again c =
     let r = content (c .in-Ok .entry .record) in
     let b = c .in-Ok .ensures tt .canonical in
     let rest = c .loop-rest .rest .now in
-    let left = take-rest rest (c .in-Ok .entry .size) in
-    (rs ++ r ∷ [],
-     all-push Sound rs r (inv .1) (b .0),
-     file-push (c .args .text .now) rest _ rs r (inv .2) (b .2 ∙ ap (λ xs. closed r ++ xs) (sym left)),
-     c .add .ensures ∙ ap (λ s. added s r) (inv .3) ∙ sym (tally-push rs r),
-     omega (arith, inv .4, length-push rs r))
+    let left = take-rest rest (c .in-Ok .entry .size) in (
+      rs ++ r ∷ [],
+      all-push Sound rs r (inv .1) (b .0),
+      file-push (c .args .text .now) rest _ rs r (inv .2) (b .2 ∙ ap (λ xs. closed r ++ xs) (sym left)),
+      c .add .ensures ∙ ap (λ s. added s r) (inv .3) ∙ sym (tally-push rs r),
+      omega (arith, inv .4, length-push rs r),
+    )
 
 pub returns : need.returns
 returns c =
