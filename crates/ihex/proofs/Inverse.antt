@@ -7,7 +7,7 @@ use native.Mathlib.Omega.{arith}
 use lib.Dec.{eqb, leb, ltb}
 use lib.ListN.{length, getD, take, drop}
 use Rattle.std.proofs.shelf.Lists.{length-append, length-take-le, take-at, take-more, take-all, nil-from-length}
-use Rattle.std.proofs.shelf.Tests.{and-from, lt-ltb}
+use Rattle.std.proofs.shelf.Tests.{and-from, eq-eqb, le-leb, lt-ltb}
 use Rattle.std.proofs.shelf.Ways.{tells}
 use Rattle.std.specs.declared.result.Result.{Result}
 use Rattle.std.specs.declared.result.Result.the-variants.{Ok, Err}
@@ -56,7 +56,7 @@ reads-back (data-at offset ds) (ho, some, few, hd) =
     let t : take (length ds) (drop 4 X) ≡ ds = take-at ds (s ∷ []) (length ds) refl in
     reading-counted (line r) (digits X) (length ds)
     (digits-found (line r) (omega arith) refl (digits-are-digits X hX))
-    (count-good (digits X) (length ds) b0 few ld)
+    (count-good (digits X) (length ds) b0 (and-from _ _ (le-leb (length ds) 128 few) (eq-eqb _ _ ld)))
     ∙ ap (λ xs. then (summed xs) (record-in (length ds))) b
     ∙ ap (λ a. then a (record-in (length ds))) (sum-good X (sum-byte-closes (fields r)))
     ∙ ap₂ (λ k xs. record-of (length ds) k 0 xs) o t

@@ -1,17 +1,18 @@
 -- the steps of reading a line
 use mathlib.Core.Path.{_≡_, refl, sym, _∙_, ap, ap₂}
 use mathlib.Core.List.{List, [], _∷_, _++_}
-use mathlib.Core.Bool.{true}
+use mathlib.Core.Bool.{true, false, not}
 use Prim.Native.Nat.{ℕ, _+_, _*_, _%_, _≤_, _<_}
 use native.Mathlib.Omega.{arith}
 use lib.Dec.{eqb, leb, ltb}
 use lib.ListN.{length, getD, set, take, drop}
 use Rattle.std.proofs.shelf.Lists.{append-assoc, length-take-le, take-more, drop-more, set-at}
+use Rattle.std.proofs.shelf.Tests.{cond-true, cond-false}
 use Rattle.std.proofs.shelf.Ways.{tells}
 use Rattle.std.specs.declared.result.Result.the-variants.{Ok, Err}
 use Rattle.ihex.specs.Answers.{then}
 use Rattle.ihex.specs.Digits.{bytes, total, all-digits}
-use Rattle.ihex.specs.Reading.{digits-in, counted, summed, record-in, reading}
+use Rattle.ihex.specs.Reading.{digits-in, is-counted, counted, summed, record-in, reading}
 use Rattle.ihex.specs.declared.fault.RecordFault.the-variants.{Count, Sum}
 
 -- one element more is copied
@@ -28,15 +29,15 @@ copied-more xs o i lx lo =
 pub digits-found : (t : List ℕ) → 11 ≤ length t → getD t 0 0 ≡ 58 → all-digits (drop 1 t) ≡ true → digits-in t ≡ Ok (drop 1 t)
 digits-found t l c h = grind (arith, tells)
 
+pub count-told : (n digits : ℕ) → is-counted n digits ≡ true → (n ≤ 128) × (digits ≡ 10 + 2 * n)
+count-told n digits h = (grind (arith, tells), grind (arith, tells))
+
 module _ (ds : List ℕ) (n : ℕ) (e : getD (bytes ds) 0 0 ≡ n) where
-  pub count-large : 128 < n → counted ds ≡ Err Count
-  count-large h = grind (arith, tells)
+  pub count-bad : is-counted n (length ds) ≡ false → counted ds ≡ Err Count
+  count-bad h = cond-true _ _ _ (ap (λ k. not (is-counted k (length ds))) e ∙ ap not h)
 
-  pub count-other : (length ds ≡ 10 + 2 * n → ⊥) → counted ds ≡ Err Count
-  count-other h = grind (arith, tells)
-
-  pub count-good : n ≤ 128 → length ds ≡ 10 + 2 * n → counted ds ≡ Ok n
-  count-good h l = grind (arith, tells)
+  pub count-good : is-counted n (length ds) ≡ true → counted ds ≡ Ok n
+  count-good h = cond-false _ _ _ (ap (λ k. not (is-counted k (length ds))) e ∙ ap not h) ∙ ap Ok e
 
 pub sum-good : (bs : List ℕ) → total bs % 256 ≡ 0 → summed bs ≡ Ok bs
 sum-good bs h = grind (arith, tells)

@@ -1,12 +1,13 @@
 -- a data record's bytes at the front of its storage
 use mathlib.Core.Path.{_≡_, refl, sym, ap, _∙_}
 use mathlib.Core.List.{List, _++_}
-use mathlib.Core.Bool.{true}
+use mathlib.Core.Bool.{true, not}
 use Prim.Native.Nat.{ℕ, _-_, _≤_}
 use native.Mathlib.Omega.{arith}
 use lib.Dec.{leb, ltb}
 use lib.ListN.{length, take, drop, replicate}
 use Rattle.std.proofs.shelf.Lists.{length-append, length-replicate, drop-replicate, take-at}
+use Rattle.std.proofs.shelf.Tests.{cond-false}
 use Rattle.std.proofs.shelf.Ways.{tells}
 use Rattle.std.specs.declared.result.Result.the-variants.{Ok}
 use Rattle.ihex.specs.Content.{data-at, is-data}
@@ -29,12 +30,13 @@ module _ (ds xs : List ℕ) where
       ap (λ ys. octets (ys ++ drop (length ds - 0) (replicate 128 0))) e
       ∙ octets-append ds _ h (ap octets (drop-replicate (length ds - 0) 128 0) ∙ octets-zeros (128 - (length ds - 0)))
 
-pub held : (ds xs : List ℕ) → xs ≡ ds → take (length ds) (stored ds xs) ≡ ds
+held : (ds xs : List ℕ) → xs ≡ ds → take (length ds) (stored ds xs) ≡ ds
 held ds xs e = take-at xs _ (length ds) (ap length e) ∙ e
 
-is-data-record : (offset : ℕ) (ds : List ℕ) → 1 ≤ length ds → length ds ≤ 128 → data-record offset ds ≡ Ok (data-at offset ds)
-is-data-record offset ds some few = grind (arith, tells)
+pub size-told : (n : ℕ) → is-data n ≡ true → (1 ≤ n) × (n ≤ 128)
+size-told n h = (grind (arith, tells), grind (arith, tells))
 
-pub made-data : (offset : ℕ) (ds xs : List ℕ) → 1 ≤ length ds → length ds ≤ 128 → xs ≡ ds
+pub made-data : (offset : ℕ) (ds xs : List ℕ) → is-data (length ds) ≡ true → xs ≡ ds
     → Ok (data-at offset (take (length ds) (stored ds xs))) ≡ data-record offset ds
-made-data offset ds xs some few e = ap (λ ys. Ok (data-at offset ys)) (held ds xs e) ∙ sym (is-data-record offset ds some few)
+made-data offset ds xs size e =
+    ap (λ ys. Ok (data-at offset ys)) (held ds xs e) ∙ sym (cond-false _ _ _ (ap not size))

@@ -13,17 +13,21 @@ pub data Content : Type 0 where
   end-of-file : Content
 
 -- a data record has 1 to 128 bytes
-abbrev pub is-data : List ℕ → Bool
-is-data ds = ltb 0 (length ds) && leb (length ds) 128
+abbrev pub is-data : ℕ → Bool
+is-data n = leb 1 n && leb n 128
 
 -- count, offset with the high byte first, type and data
 abbrev pub fields : Content → List ℕ
 fields (data-at offset ds) = length ds ∷ offset / 256 ∷ offset % 256 ∷ 0 ∷ ds
 fields end-of-file = 0 ∷ 0 ∷ 0 ∷ 1 ∷ []
 
+-- what is missing to the next multiple of 256
+abbrev pub complement : ℕ → ℕ
+complement t = (256 - t % 256) % 256
+
 -- makes all bytes total 0 modulo 256
 abbrev pub sum-byte : List ℕ → ℕ
-sum-byte bs = (256 - total bs % 256) % 256
+sum-byte bs = complement (total bs)
 
 -- a colon, and the digits of the fields and their sum byte
 abbrev pub line : Content → List ℕ

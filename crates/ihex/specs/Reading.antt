@@ -1,8 +1,8 @@
 -- reading a line: the checks in their order, and the record that they leave
 use mathlib.Core.List.{List}
-use mathlib.Core.Bool.{Bool, not, cond, _&&_, _||_}
+use mathlib.Core.Bool.{Bool, not, cond, _&&_}
 use Prim.Native.Nat.{ℕ, _+_, _*_, _%_}
-use lib.Dec.{eqb, ltb}
+use lib.Dec.{eqb, leb, ltb}
 use lib.ListN.{length, getD, take, drop}
 use Rattle.std.specs.declared.result.Result.{Result}
 use Rattle.std.specs.declared.result.Result.the-variants.{Ok, Err}
@@ -20,11 +20,13 @@ digits-in text =
     (refuse (not (all-digits (drop 1 text))) NotADigit
     (Ok (drop 1 text))))
 
+-- a count of at most 128, and two digits for each of five bytes and of those counted
+abbrev pub is-counted : ℕ → ℕ → Bool
+is-counted n digits = leb n 128 && eqb digits (10 + 2 * n)
+
 -- the count, if there are as many digits as it says
 abbrev pub counted : List ℕ → Result ℕ RecordFault
-counted ds =
-    let n = getD (bytes ds) 0 0 in
-    refuse (ltb 128 n || not (eqb (length ds) (10 + 2 * n))) Count (Ok n)
+counted ds = let n = getD (bytes ds) 0 0 in refuse (not (is-counted n (length ds))) Count (Ok n)
 
 -- the bytes, if they total 0 modulo 256
 abbrev pub summed : List ℕ → Result (List ℕ) RecordFault
@@ -32,7 +34,7 @@ summed bs = refuse (not (eqb (total bs % 256) 0)) Sum (Ok bs)
 
 -- a data record of these bytes
 abbrev pub data-record : ℕ → List ℕ → Result Content RecordFault
-data-record offset ds = refuse (not (is-data ds)) Unknown (Ok (data-at offset ds))
+data-record offset ds = refuse (not (is-data (length ds))) Unknown (Ok (data-at offset ds))
 
 -- the record of a count, an offset, a type and data
 abbrev pub record-of : ℕ → ℕ → ℕ → List ℕ → Result Content RecordFault

@@ -3,14 +3,14 @@
 ghost use mathlib.Core.Path.{_≡_};
 ghost use mathlib.Core.List.{_++_};
 ghost use mathlib.Core.Bool.{true};
-ghost use Prim.Native.Nat.{_+_, _*_, _/_, _%_, _≤_};
+ghost use Prim.Native.Nat.{_+_, _*_, _/_, _%_, _<_, _≤_};
 ghost use lib.ListN.{length, drop};
 ghost use Rattle.std.specs.Vec.{made};
 ghost use Rattle.ihex.specs.Answers.{answer};
 ghost use Rattle.ihex.specs.Digits.{all-digits, bytes, total};
 ghost use Rattle.ihex.specs.Laws.{Canonical};
 ghost use Rattle.ihex.specs.Meaning.{content, referred};
-ghost use Rattle.ihex.specs.Reading.{digits-in, counted, record-in, reading};
+ghost use Rattle.ihex.specs.Reading.{digits-in, is-counted, counted, record-in, reading};
 use crate::data_record::DataRecord;
 use crate::data_record::MAX_DATA;
 use crate::digits::are_digits;
@@ -36,6 +36,14 @@ fn find_digits(text: &[u8]) -> Result<&[u8], RecordFault>
     Ok(digits)
 }
 
+// Whether a line with this count has this many digits.
+fn is_count(count: usize, digits: usize) -> bool
+    requires { ⌜ count < 256 ⌝ }
+    ensures { λ r. ⌜ r ≡ is-counted count digits ⌝ }
+{
+    count <= MAX_DATA && digits == Record::SHORTEST - 1 + 2 * count
+}
+
 // The count, if there are as many digits as it says.
 fn check_count(digits: &[u8]) -> Result<usize, RecordFault>
     requires { ⌜ all-digits (now digits) ≡ true ⌝ ∗ ⌜ 10 ≤ length (now digits) ⌝ }
@@ -43,7 +51,7 @@ fn check_count(digits: &[u8]) -> Result<usize, RecordFault>
     ensures fits { λ r. ⌜ made r (λ n. (n ≤ 128) × (length (now (digits .entry)) ≡ 10 + 2 * n)) ⌝ }
 {
     let count = (value_of(digits[0]) * 16 + value_of(digits[1])) as usize;
-    if count > MAX_DATA || digits.len() != Record::SHORTEST - 1 + 2 * count {
+    if !is_count(count, digits.len()) {
         return Err(RecordFault::Count);
     }
     Ok(count)
@@ -92,7 +100,7 @@ impl Record {
         let digits = find_digits(text)?;
         let count = check_count(digits)?;
         let mut bytes = [0; Record::MAX_BYTES];
-        if decode(digits, &mut bytes) != 0 {
+        if decode(digits, &mut bytes) != Record::TOTAL {
             return Err(RecordFault::Sum);
         }
         find_record(count, &bytes[0..5 + count])

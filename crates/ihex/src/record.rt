@@ -16,6 +16,8 @@ impl Record {
     pub(crate) const DATA: u8 = 0;
 
     pub(crate) const END: u8 = 1;
+    // What all bytes of a record total, modulo 256.
+    pub(crate) const TOTAL: u8 = 0;
     // The bytes of a record with the most data: count, offset, type, data and sum.
     pub(crate) const MAX_BYTES: usize = 133;
 }

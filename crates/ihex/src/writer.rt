@@ -4,7 +4,7 @@ ghost use mathlib.Core.Path.{_≡_};
 ghost use mathlib.Core.List.{_++_};
 ghost use Prim.Native.Nat.{_+_, _*_, _/_, _%_, _≤_};
 ghost use lib.ListN.{length, set, take, drop};
-ghost use Rattle.ihex.specs.Content.{fields};
+ghost use Rattle.ihex.specs.Content.{complement, fields};
 ghost use Rattle.ihex.specs.Digits.{digit, digits, total};
 ghost use Rattle.ihex.specs.Laws.{Reads-back};
 ghost use Rattle.ihex.specs.Meaning.{content};
@@ -38,6 +38,13 @@ fn write_bytes(out: &mut [u8], at: usize, bytes: &[u8], start: u8) -> u8
         place += 2;
     }
     sum
+}
+
+// The byte that makes the total 0 modulo 256.
+fn sum_byte(total: u8) -> u8
+    ensures { λ r. ⌜ r ≡ complement total ⌝ }
+{
+    total.wrapping_neg()
 }
 
 impl Record {
@@ -76,9 +83,9 @@ impl Record {
             return Err(BufferTooShort);
         }
         out[0] = Record::COLON;
-        let sum = write_bytes(out, 1, &self.header(), 0);
-        let sum = write_bytes(out, 9, data, sum);
-        write_bytes(out, 9 + 2 * data.len(), &[sum.wrapping_neg()], sum);
+        let head = write_bytes(out, 1, &self.header(), 0);
+        let sum = write_bytes(out, 9, data, head);
+        write_bytes(out, 9 + 2 * data.len(), &[sum_byte(sum)], sum);
         Ok(length)
     }
 }

@@ -1,11 +1,18 @@
 ghost use mathlib.Core.Path.{_≡_};
 ghost use Rattle.ihex.specs.Answers.{answer};
-ghost use Rattle.ihex.specs.Content.{data-at};
+ghost use Rattle.ihex.specs.Content.{data-at, is-data};
 ghost use Rattle.ihex.specs.Meaning.{data-of};
 ghost use Rattle.ihex.specs.Reading.{data-record};
 use crate::data_record::DataRecord;
 use crate::data_record::MAX_DATA;
 use crate::fault::RecordFault;
+
+// Whether a data record has this many bytes.
+fn has_data(len: usize) -> bool
+    ensures { λ r. ⌜ r ≡ is-data len ⌝ }
+{
+    1 <= len && len <= MAX_DATA
+}
 
 impl DataRecord {
     // The record of these bytes at this offset, or a refusal where there are none or more than 128.
@@ -13,7 +20,7 @@ impl DataRecord {
         ensures { λ r. ⌜ answer (λ d. data-at (d .offset) (data-of d)) r ≡ data-record offset (now («data» .entry)) ⌝ }
     {
         let len = data.len();
-        if len < 1 || len > MAX_DATA {
+        if !has_data(len) {
             return Err(RecordFault::Unknown);
         }
         let mut bytes = [0; MAX_DATA];

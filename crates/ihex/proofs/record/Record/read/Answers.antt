@@ -17,12 +17,12 @@ decode-requires c κs =
     let n = c .in-Continue-count .ensures tt .fits in
     (c .in-Continue-digits .ensures tt .digits .0, omega (arith, n .0, n .1))
 
-pub returns-then-decode-ne0 : need.returns-then-decode-ne0
-returns-then-decode-ne0 c =
+pub returns-then-decode-ne-TOTAL : need.returns-then-decode-ne-TOTAL
+returns-then-decode-ne-TOTAL c =
     let ds = c .in-Continue-digits .digits .now in
     let n = c .in-Continue-count .count in
     let e = reading-counted (c .args .text .now) ds n (c .in-Continue-digits .ensures tt .answer) (sym (c .in-Continue-count .ensures tt .answer)) in
-    let z = sum-bad (bytes ds) (λ h. c .if-decode-ne0 .taken (c .decode .ensures .sum ∙ h)) in
+    let z = sum-bad (bytes ds) (λ h. c .if-decode-ne-TOTAL .taken (c .decode .ensures .sum ∙ h)) in
     record { answer = sym (e ∙ ap (λ a. then a (record-in n)) z); canonical = tt }
 
 pub returns : need.returns
@@ -32,7 +32,7 @@ returns c =
     let n = c .in-Continue-count .count in
     let fits = c .in-Continue-count .ensures tt .fits in
     let e = reading-counted t ds n (c .in-Continue-digits .ensures tt .answer) (sym (c .in-Continue-count .ensures tt .answer)) in
-    let z = sum-good (bytes ds) (sym (c .decode .ensures .sum) ∙ c .if-decode-ne0 .left) in
+    let z = sum-good (bytes ds) (sym (c .decode .ensures .sum) ∙ c .if-decode-ne-TOTAL .left) in
     let part : take (5 + n - 0) (c .decode .last .out) ≡ bytes ds =
     ap (take (5 + n - 0)) (c .decode .ensures .out)
     ∙ take-at (bytes ds) _ (5 + n - 0) (omega (arith, length-bytes ds, fits .1)) in
