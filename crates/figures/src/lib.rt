@@ -2,7 +2,7 @@
 
 ghost use mathlib.Core.Path.{_≡_};
 ghost use Rattle.std.specs.declared.result.Result.the-variants.{Ok};
-ghost use Rattle.ihex.specs.Answers.{answer};
+ghost use Rattle.refusal.specs.Answers.{answer};
 ghost use Rattle.ihex.specs.Meaning.{content};
 ghost use Rattle.figures.specs.Table.{Figures, cell-section};
 use ihex::Record;
@@ -17,4 +17,41 @@ pub fn worked_examples() -> Result<Record, RecordFault>
     ensures first { λ r. ⌜ answer content r ≡ Ok cell-section ⌝ }
 {
     Record::read(CELL_LINE)
+}
+
+// What the program prints of small files.
+#[cfg(test)]
+mod tests {
+    use image::report;
+    use std::test::*;
+
+    #[test]
+    fn a_cell_and_the_end(rt: LibcRuntime) -> Result<(), Fail> {
+        let page = report(rt.alloc(), b":05810000FED400140094\r\n:00000001FF\r\n")?;
+        check_eq(
+            page.as_str(),
+            "data records: 1\nbytes: 5\nlowest offset: 8100h\nhighest offset: 8100h\nend record: yes",
+        )
+    }
+
+    #[test]
+    fn an_empty_file(rt: LibcRuntime) -> Result<(), Fail> {
+        let page = report(rt.alloc(), b"")?;
+        check_eq(
+            page.as_str(),
+            "data records: 0\nbytes: 0\noffsets: none\nend record: no",
+        )
+    }
+
+    #[test]
+    fn a_wrong_sum_in_line_2(rt: LibcRuntime) -> Result<(), Fail> {
+        let page = report(rt.alloc(), b":00000001FF\r\n:05810000FED400140095\r\n")?;
+        check_eq(page.as_str(), "refused,2,5")
+    }
+
+    #[test]
+    fn a_last_line_without_cr_lf(rt: LibcRuntime) -> Result<(), Fail> {
+        let page = report(rt.alloc(), b":00000001FF\n")?;
+        check_eq(page.as_str(), "refused,1,17")
+    }
 }

@@ -11,7 +11,7 @@ use Rattle.std.proofs.shelf.Tests.{and-from, eq-eqb, le-leb, lt-ltb}
 use Rattle.std.proofs.shelf.Ways.{tells}
 use Rattle.std.specs.declared.result.Result.{Result}
 use Rattle.std.specs.declared.result.Result.the-variants.{Ok, Err}
-use Rattle.ihex.specs.Answers.{then, answer}
+use Rattle.refusal.specs.Answers.{then, answer}
 use Rattle.ihex.specs.Content.{Content, data-at, end-of-file, fields, line, sum-byte, Sound}
 use Rattle.ihex.specs.Digits.{all-digits, digits, bytes, octets, total}
 use Rattle.ihex.specs.Laws.{Reads-back, Canonical}
@@ -21,7 +21,7 @@ use Rattle.ihex.specs.declared.fault.RecordFault.{RecordFault}
 use Rattle.ihex.specs.declared.record.Record.{Record}
 use Rattle.ihex.specs.declared.record.Record.the-variants.{Data, End}
 use Rattle.ihex.proofs.Octets.{octets-append, octets-at, octets-take}
-use Rattle.ihex.proofs.ReadSteps.{digits-found, count-good, sum-good, reading-counted}
+use Rattle.ihex.proofs.ReadSteps.{digits-found, count-good, reading-summed}
 use Rattle.ihex.proofs.Spelling.{length-digits, digits-are-digits, length-bytes, bytes-are-octets, bytes-digits, digits-bytes}
 use Rattle.ihex.proofs.Totals.{total-append, sum-byte-closes, sum-byte-alone}
 
@@ -54,11 +54,11 @@ reads-back (data-at offset ds) (ho, some, few, hd) =
     let b0 : getD (bytes (digits X)) 0 0 ≡ length ds = ap (λ xs. getD xs 0 0) b in
     let o : getD X 1 0 * 256 + getD X 2 0 ≡ offset = omega arith in
     let t : take (length ds) (drop 4 X) ≡ ds = take-at ds (s ∷ []) (length ds) refl in
-    reading-counted (line r) (digits X) (length ds)
+    reading-summed (line r) (digits X) (length ds)
     (digits-found (line r) (omega arith) refl (digits-are-digits X hX))
     (count-good (digits X) (length ds) b0 (and-from _ _ (le-leb (length ds) 128 few) (eq-eqb _ _ ld)))
-    ∙ ap (λ xs. then (summed xs) (record-in (length ds))) b
-    ∙ ap (λ a. then a (record-in (length ds))) (sum-good X (sum-byte-closes (fields r)))
+    (ap (λ xs. total xs % 256) b ∙ sum-byte-closes (fields r))
+    ∙ ap (record-in (length ds)) b
     ∙ ap₂ (λ k xs. record-of (length ds) k 0 xs) o t
     ∙ data-found (length ds) offset ds some few
 

@@ -10,7 +10,7 @@ use Rattle.std.proofs.shelf.Lists.{append-assoc, length-take-le, take-more, dro
 use Rattle.std.proofs.shelf.Tests.{cond-true, cond-false}
 use Rattle.std.proofs.shelf.Ways.{tells}
 use Rattle.std.specs.declared.result.Result.the-variants.{Ok, Err}
-use Rattle.ihex.specs.Answers.{then}
+use Rattle.refusal.specs.Answers.{then}
 use Rattle.ihex.specs.Digits.{bytes, total, all-digits}
 use Rattle.ihex.specs.Reading.{digits-in, is-counted, counted, summed, record-in, reading}
 use Rattle.ihex.specs.declared.fault.RecordFault.the-variants.{Count, Sum}
@@ -39,15 +39,21 @@ module _ (ds : List ℕ) (n : ℕ) (e : getD (bytes ds) 0 0 ≡ n) where
   pub count-good : is-counted n (length ds) ≡ true → counted ds ≡ Ok n
   count-good h = cond-false _ _ _ (ap (λ k. not (is-counted k (length ds))) e ∙ ap not h) ∙ ap Ok e
 
-pub sum-good : (bs : List ℕ) → total bs % 256 ≡ 0 → summed bs ≡ Ok bs
+sum-good : (bs : List ℕ) → total bs % 256 ≡ 0 → summed bs ≡ Ok bs
 sum-good bs h = grind (arith, tells)
 
-pub sum-bad : (bs : List ℕ) → (total bs % 256 ≡ 0 → ⊥) → summed bs ≡ Err Sum
+sum-bad : (bs : List ℕ) → (total bs % 256 ≡ 0 → ⊥) → summed bs ≡ Err Sum
 sum-bad bs h = grind (arith, tells)
 
 -- what is left once the digits and the count are found
-pub reading-counted : (t ds : List ℕ) (n : ℕ) → digits-in t ≡ Ok ds → counted ds ≡ Ok n
-    → reading t ≡ then (summed (bytes ds)) (record-in n)
-reading-counted t ds n hd hc =
-    ap (λ r. then r (λ ds. then (counted ds) (λ n. then (summed (bytes ds)) (record-in n)))) hd
-    ∙ ap (λ r. then r (λ n. then (summed (bytes ds)) (record-in n))) hc
+module _ (t ds : List ℕ) (n : ℕ) (hd : digits-in t ≡ Ok ds) (hc : counted ds ≡ Ok n) where
+  reading-counted : reading t ≡ then (summed (bytes ds)) (record-in n)
+  reading-counted =
+      ap (λ r. then r (λ ds. then (counted ds) (λ n. then (summed (bytes ds)) (record-in n)))) hd
+      ∙ ap (λ r. then r (λ n. then (summed (bytes ds)) (record-in n))) hc
+
+  pub reading-bad-sum : (total (bytes ds) % 256 ≡ 0 → ⊥) → reading t ≡ Err Sum
+  reading-bad-sum h = reading-counted ∙ ap (λ a. then a (record-in n)) (sum-bad (bytes ds) h)
+
+  pub reading-summed : total (bytes ds) % 256 ≡ 0 → reading t ≡ record-in n (bytes ds)
+  reading-summed h = reading-counted ∙ ap (λ a. then a (record-in n)) (sum-good (bytes ds) h)

@@ -1,5 +1,4 @@
 pub mod Digits
-pub mod Answers
 pub mod Content
 pub mod Meaning
 pub mod Reading

@@ -6,7 +6,7 @@ use lib.Dec.{eqb, leb, ltb}
 use lib.ListN.{length, getD, take, drop}
 use Rattle.std.specs.declared.result.Result.{Result}
 use Rattle.std.specs.declared.result.Result.the-variants.{Ok, Err}
-use Rattle.ihex.specs.Answers.{then, refuse}
+use Rattle.refusal.specs.Answers.{then, refuse}
 use Rattle.ihex.specs.Content.{Content, data-at, end-of-file, is-data}
 use Rattle.ihex.specs.Digits.{all-digits, bytes, total}
 use Rattle.ihex.specs.declared.fault.RecordFault.{RecordFault}

@@ -7,7 +7,7 @@ use lib.Dec.{ltb}
 use lib.ListN.{length, drop}
 use Rattle.std.specs.declared.result.Result.{Result}
 use Rattle.std.specs.declared.result.Result.the-variants.{Ok, Err}
-use Rattle.ihex.specs.Answers.{refuse}
+use Rattle.refusal.specs.Answers.{refuse}
 use Rattle.ihex.specs.Content.{Content, line}
 use Rattle.refusal.specs.declared.BufferTooShort.{BufferTooShort}
 

@@ -6,7 +6,7 @@ ghost use mathlib.Core.Bool.{true};
 ghost use Prim.Native.Nat.{_+_, _*_, _/_, _%_, _<_, _≤_};
 ghost use lib.ListN.{length, drop};
 ghost use Rattle.std.specs.Vec.{made};
-ghost use Rattle.ihex.specs.Answers.{answer};
+ghost use Rattle.refusal.specs.Answers.{answer};
 ghost use Rattle.ihex.specs.Digits.{all-digits, bytes, total};
 ghost use Rattle.ihex.specs.Laws.{Canonical};
 ghost use Rattle.ihex.specs.Meaning.{content, referred};

@@ -57,11 +57,12 @@ module _ (t : List ℕ) (i : ℕ) (l : i < length t) where
       ap (from-place i) (at-drop-more close t i 0 l ∙ cond-true closes _ _ (and-from _ _ (eq-eqb _ 13 cr) (eq-eqb _ 10 (next ∙ lf))))
 
 -- the answers
-pub line-found : (t : List ℕ) (i : ℕ) → close t ≡ Some (i + 0) → i ≤ 267
-    → Ok (record { line = take i t; rest = drop (i + 2) t }) ≡ first-line t
-line-found t i h few =
+pub line-found : (t : List ℕ) (i k : ℕ) (r : List ℕ) → k ≡ i → r ≡ drop (i + 2) t → close t ≡ Some (i + 0) → i ≤ 267
+    → Ok (record { line = take k t; rest = r }) ≡ first-line t
+line-found t i k r ek er h few =
     let n : i + 0 ≡ i = omega arith in
-    sym (ap (cut-at t) (h ∙ ap Some n) ∙ cond-false (ltb 267 i) _ _ (le-ltb 267 i few))
+    ap₂ (λ j xs. Ok (record { line = take j t; rest = xs })) ek er
+    ∙ sym (ap (cut-at t) (h ∙ ap Some n) ∙ cond-false (ltb 267 i) _ _ (le-ltb 267 i few))
 
 close-short : (t : List ℕ) → length t ≤ 1 → close t ≡ None
 close-short [] h = refl

@@ -14,8 +14,11 @@ use Rattle.std.specs.declared.option.Option.{Option}
 use Rattle.std.specs.declared.option.Option.the-variants.{Some, None}
 use Rattle.std.specs.declared.result.Result.{Result}
 use Rattle.std.specs.declared.result.Result.the-variants.{Ok, Err}
+use Rattle.refusal.specs.Answers.{then}
 use Rattle.ihex.specs.Content.{Content, line, Sound}
-use Rattle.image.specs.Files.{Head, closed, Begins}
+use Rattle.ihex.specs.Reading.{reading}
+use Rattle.ihex.specs.declared.fault.RecordFault.{RecordFault}
+use Rattle.image.specs.Files.{Head, closed, record-of-line, first-record, Begins}
 use Rattle.image.specs.Lines.{Cut, close, cut-at, first-line}
 use Rattle.image.specs.declared.fault.ImageFault.{ImageFault}
 
@@ -76,3 +79,9 @@ begins t k r h s e = (
 
 pub begins-within : (t : List ℕ) (h : Head) → Begins t (Ok h) → h .size ≤ length t
 begins-within t h b = omega (arith, b .1, ap length (b .2), length-append (closed (h .content)) (drop (h .size) t))
+
+pub record-found : (t : List ℕ) (k : Cut) (a : Result Content RecordFault) → first-line t ≡ Ok k → a ≡ reading (k .line)
+    → record-of-line (length (k .line)) a ≡ first-record t
+record-found t k a h e =
+    ap (record-of-line (length (k .line))) e
+    ∙ sym (ap (λ r. then r (λ c. record-of-line (length (c .line)) (reading (c .line)))) h)

@@ -6,7 +6,7 @@ use lib.ListN.{length, drop}
 use Rattle.std.specs.declared.result.Result.{Result}
 use Rattle.std.specs.declared.result.Result.the-variants.{Ok, Err}
 use Rattle.std.specs.shelf.Lists.{joined}
-use Rattle.ihex.specs.Answers.{then}
+use Rattle.refusal.specs.Answers.{then}
 use Rattle.ihex.specs.Content.{Content, line, Sound}
 use Rattle.ihex.specs.Reading.{reading}
 use Rattle.ihex.specs.declared.fault.RecordFault.{RecordFault}

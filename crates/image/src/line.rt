@@ -2,7 +2,7 @@ ghost use mathlib.Core.Path.{_≡_};
 ghost use Prim.Native.Nat.{_≤_};
 ghost use lib.ListN.{length};
 ghost use Rattle.std.specs.Vec.{made};
-ghost use Rattle.ihex.specs.Answers.{answer};
+ghost use Rattle.refusal.specs.Answers.{answer};
 ghost use Rattle.image.specs.Lines.{first-line};
 ghost use Rattle.image.specs.Views.{cut-of};
 use crate::fault::ImageFault;

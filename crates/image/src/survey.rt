@@ -58,7 +58,7 @@ impl Survey {
     {
         let mut survey = Survey::new();
         let mut rest = text;
-        let mut line = 1;
+        let mut line: usize = 1;
         while !rest.is_empty() {
             match next_record(rest) {
                 Ok(entry) => {

@@ -1,5 +1,5 @@
 ghost use mathlib.Core.Path.{_≡_};
-ghost use Rattle.ihex.specs.Answers.{answer};
+ghost use Rattle.refusal.specs.Answers.{answer};
 ghost use Rattle.ihex.specs.Content.{data-at, is-data};
 ghost use Rattle.ihex.specs.Meaning.{data-of};
 ghost use Rattle.ihex.specs.Reading.{data-record};

@@ -1,11 +1,8 @@
-use mathlib.Core.Path.{_≡_, sym, ap, ap₂, _∙_}
-use Rattle.ihex.specs.Answers.{then}
+use mathlib.Core.Path.{sym}
+use Rattle.std.specs.declared.result.Result.the-variants.{Ok}
 use Rattle.ihex.specs.Meaning.{content}
-use Rattle.ihex.specs.Reading.{reading}
-use lib.ListN.{length}
-use Rattle.image.specs.Files.{record-of-line}
 use Rattle.image.specs.Views.{cut-of}
-use Rattle.image.proofs.Heads.{begins, begins-within}
+use Rattle.image.proofs.Heads.{begins, begins-within, record-found}
 use Rattle.image.proofs.entry.next_record.Needs as need
 
 pub returns : need.returns
@@ -16,9 +13,4 @@ returns c =
     let cut = sym (c .in-Continue-line .ensures tt .answer) in
     let read = c .in-Continue-record .ensures tt in
     let b = begins t k r cut (read .canonical .0) (read .canonical .1) in
-    record {
-      within = begins-within t _ b;
-      answer = sym (ap (λ a. then a (λ c. record-of-line (length (c .line)) (reading (c .line)))) cut
-          ∙ ap (record-of-line (length (k .line))) (sym (read .answer)));
-      canonical = b;
-    }
+    record { answer = record-found t k (Ok r) cut (read .answer); within = begins-within t _ b; canonical = b }

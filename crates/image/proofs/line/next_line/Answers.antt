@@ -1,11 +1,10 @@
-use mathlib.Core.Path.{_≡_, ap₂, _∙_}
+use mathlib.Core.Path.{_≡_, _∙_}
 use mathlib.Core.Logic.{⊎-elim}
-use Prim.Native.Nat.{_+_, _-_, _<_, _≤_}
+use Prim.Native.Nat.{_+_, _-_, _<_}
 use native.Mathlib.Omega.{arith}
-use lib.ListN.{length, take, drop}
+use lib.ListN.{length}
 use Rattle.std.proofs.shelf.Lists.{take-rest, length-take}
 use Rattle.std.proofs.shelf.Tests.{cases-lt}
-use Rattle.std.specs.declared.result.Result.the-variants.{Ok}
 use Rattle.image.proofs.Closing.{close-no-cr, close-no-lf, close-found, line-found, line-missing, line-too-long}
 use Rattle.image.proofs.line.next_line.Needs as need
 use Rattle.image.proofs.line.next_line.Needs.{else-text-i-eq-CR·by·then-text-i-eq-CR·else-text-i-eq-LF, else-text-i-eq-CR·by·else-text-i-eq-CR}
@@ -15,11 +14,9 @@ returns-then-text-i-eq-LF c =
     let t = c .args .text .now in
     let i = c .loop-i .i in
     let l : i < length t = omega arith in
-    let n : i - 0 ≡ i = omega arith in
+    let found = close-found t i l (c .if-text-i-eq-CR .taken) (c .if-text-i-eq-LF .taken) in
     record {
-      answer =
-          ap₂ (λ k r. Ok (record { line = take k t; rest = r })) n (take-rest t (i + 2))
-          ∙ line-found t i (c .loop-i .inv ∙ close-found t i l (c .if-text-i-eq-CR .taken) (c .if-text-i-eq-LF .taken)) (omega arith);
+      answer = line-found t i (i - 0) _ (omega arith) (take-rest t (i + 2)) (c .loop-i .inv ∙ found) (omega arith);
       few = simp length-take (omega arith);
     }
 

@@ -4,11 +4,10 @@ use Prim.Native.Nat.{_+_, _-_, _/_}
 use native.Mathlib.Omega.{arith}
 use lib.ListN.{length, take}
 use Rattle.std.proofs.shelf.Lists.{take-at}
-use Rattle.ihex.specs.Answers.{then}
 use Rattle.ihex.specs.Digits.{bytes}
 use Rattle.ihex.specs.Reading.{record-in}
 use Rattle.ihex.proofs.Inverse.{canonical}
-use Rattle.ihex.proofs.ReadSteps.{sum-good, sum-bad, reading-counted}
+use Rattle.ihex.proofs.ReadSteps.{reading-bad-sum, reading-summed}
 use Rattle.ihex.proofs.Spelling.{length-bytes}
 use Rattle.ihex.proofs.record.Record.read.Needs as need
 
@@ -19,11 +18,11 @@ decode-requires c κs =
 
 pub returns-then-decode-ne-TOTAL : need.returns-then-decode-ne-TOTAL
 returns-then-decode-ne-TOTAL c =
-    let ds = c .in-Continue-digits .digits .now in
-    let n = c .in-Continue-count .count in
-    let e = reading-counted (c .args .text .now) ds n (c .in-Continue-digits .ensures tt .answer) (sym (c .in-Continue-count .ensures tt .answer)) in
-    let z = sum-bad (bytes ds) (λ h. c .if-decode-ne-TOTAL .taken (c .decode .ensures .sum ∙ h)) in
-    record { answer = sym (e ∙ ap (λ a. then a (record-in n)) z); canonical = tt }
+    let e =
+    reading-bad-sum (c .args .text .now) (c .in-Continue-digits .digits .now) (c .in-Continue-count .count)
+    (c .in-Continue-digits .ensures tt .answer) (sym (c .in-Continue-count .ensures tt .answer))
+    (λ h. c .if-decode-ne-TOTAL .taken (c .decode .ensures .sum ∙ h)) in
+    record { answer = sym e; canonical = tt }
 
 pub returns : need.returns
 returns c =
@@ -31,10 +30,11 @@ returns c =
     let ds = c .in-Continue-digits .digits .now in
     let n = c .in-Continue-count .count in
     let fits = c .in-Continue-count .ensures tt .fits in
-    let e = reading-counted t ds n (c .in-Continue-digits .ensures tt .answer) (sym (c .in-Continue-count .ensures tt .answer)) in
-    let z = sum-good (bytes ds) (sym (c .decode .ensures .sum) ∙ c .if-decode-ne-TOTAL .left) in
+    let e =
+    reading-summed t ds n (c .in-Continue-digits .ensures tt .answer) (sym (c .in-Continue-count .ensures tt .answer))
+    (sym (c .decode .ensures .sum) ∙ c .if-decode-ne-TOTAL .left) in
     let part : take (5 + n - 0) (c .decode .last .out) ≡ bytes ds =
     ap (take (5 + n - 0)) (c .decode .ensures .out)
     ∙ take-at (bytes ds) _ (5 + n - 0) (omega (arith, length-bytes ds, fits .1)) in
-    let answer = c .find-record .ensures ∙ ap (record-in n) part ∙ sym (e ∙ ap (λ a. then a (record-in n)) z) in
+    let answer = c .find-record .ensures ∙ ap (record-in n) part ∙ sym e in
     record { answer = answer; canonical = canonical t _ answer }
