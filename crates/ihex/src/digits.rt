@@ -1,10 +1,9 @@
-// Single digits and bytes of digits.
+// Upper-case digits, and the two of a byte.
 
 ghost use mathlib.Core.Path.{_≡_};
-ghost use mathlib.Core.Bool.{true};
 ghost use mathlib.Core.List.{[], _∷_};
 ghost use Prim.Native.Nat.{_<_};
-ghost use Rattle.ihex.specs.Digits.{digit, digits, is-digit, value, all-digits};
+ghost use Rattle.ihex.specs.Digits.{digit, digits, is-digit, all-digits};
 
 // The character of a value below 16.
 fn digit_of(n: u8) -> u8
@@ -26,14 +25,6 @@ pub(crate) fn is_upper_digit(c: u8) -> bool
     ensures { λ r. ⌜ r ≡ is-digit c ⌝ }
 {
     c >= b'0' && c <= b'9' || c >= b'A' && c <= b'F'
-}
-
-pub(crate) fn value_of(c: u8) -> u8
-    requires { ⌜ is-digit c ≡ true ⌝ }
-    ensures value { λ r. ⌜ r ≡ value c ⌝ }
-    ensures small { λ r. ⌜ r < 16 ⌝ }
-{
-    if c <= b'9' { c - b'0' } else { c - (b'A' - 10) }
 }
 
 // Whether all characters are upper-case digits.

@@ -7,14 +7,13 @@ ghost use Prim.Native.Nat.{_+_, _*_, _/_, _%_, _<_, _≤_};
 ghost use lib.ListN.{length, drop};
 ghost use Rattle.std.specs.Vec.{made};
 ghost use Rattle.refusal.specs.Answers.{answer};
-ghost use Rattle.ihex.specs.Digits.{all-digits, bytes, total};
+ghost use Rattle.ihex.specs.Digits.{is-digit, value, all-digits, bytes, total};
 ghost use Rattle.ihex.specs.Laws.{Canonical};
 ghost use Rattle.ihex.specs.Meaning.{content, referred};
 ghost use Rattle.ihex.specs.Reading.{digits-in, is-counted, counted, record-in, reading};
 use crate::data_record::DataRecord;
 use crate::data_record::MAX_DATA;
 use crate::digits::are_digits;
-use crate::digits::value_of;
 use crate::fault::RecordFault;
 use crate::record::Record;
 
@@ -34,6 +33,15 @@ fn find_digits(text: &[u8]) -> Result<&[u8], RecordFault>
         return Err(RecordFault::NotADigit);
     }
     Ok(digits)
+}
+
+// The value of a digit.
+fn value_of(c: u8) -> u8
+    requires { ⌜ is-digit c ≡ true ⌝ }
+    ensures value { λ r. ⌜ r ≡ value c ⌝ }
+    ensures small { λ r. ⌜ r < 16 ⌝ }
+{
+    if c <= b'9' { c - b'0' } else { c - (b'A' - 10) }
 }
 
 // Whether a line with this count has this many digits.
