@@ -35,32 +35,40 @@ sound End = tt
 data-found : (n offset : ℕ) (ds : List ℕ) → 1 ≤ length ds → length ds ≤ 128 → record-of n offset 0 ds ≡ Ok (data-at offset ds)
 data-found n offset ds some few = grind (arith, tells)
 
-pub reads-back : (r : Content) → Sound r → Reads-back r
-reads-back end-of-file h = refl
-reads-back (data-at offset ds) (ho, some, few, hd) =
-    let r : Content = data-at offset ds in
-    let s : ℕ = sum-byte (fields r) in
-    let X : List ℕ = fields r ++ s ∷ [] in
+line-octets : (r : Content) → Sound r → octets (fields r ++ sum-byte (fields r) ∷ []) ≡ true
+line-octets end-of-file h = refl
+line-octets (data-at offset ds) (ho, some, few, hd) =
+    let s : ℕ = sum-byte (fields (data-at offset ds)) in
     let f1 : length ds < 256 = omega arith in
     let f2 : offset / 256 < 256 = omega arith in
     let f3 : offset % 256 < 256 = omega arith in
     let f4 : s < 256 = omega arith in
-    let hF : octets (fields r) ≡ true =
-    and-from _ _ (lt-ltb (length ds) 256 f1) (and-from _ _ (lt-ltb (offset / 256) 256 f2) (and-from _ _ (lt-ltb (offset % 256) 256 f3) hd)) in
-    let hX : octets X ≡ true = octets-append (fields r) (s ∷ []) hF (and-from _ _ (lt-ltb s 256 f4) refl) in
-    let b : bytes (digits X) ≡ X = bytes-digits X hX in
+    let hs : octets (s ∷ []) ≡ true = and-from _ _ (lt-ltb s 256 f4) refl in
+    and-from _ _ (lt-ltb (length ds) 256 f1) (and-from _ _ (lt-ltb (offset / 256) 256 f2) (and-from _ _ (lt-ltb (offset % 256) 256 f3) (octets-append ds (s ∷ []) hd hs)))
+
+-- after its colon a line has only digits
+pub line-digits : (r : Content) → Sound r → all-digits (drop 1 (line r)) ≡ true
+line-digits r h = digits-are-digits (fields r ++ sum-byte (fields r) ∷ []) (line-octets r h)
+
+pub reads-back : (r : Content) → Sound r → Reads-back r
+reads-back end-of-file h = refl
+reads-back (data-at offset ds) h =
+    let r : Content = data-at offset ds in
+    let s : ℕ = sum-byte (fields r) in
+    let X : List ℕ = fields r ++ s ∷ [] in
+    let b : bytes (digits X) ≡ X = bytes-digits X (line-octets r h) in
     let lX : length X ≡ 5 + length ds = omega (arith, length-append ds (s ∷ [])) in
     let ld : length (digits X) ≡ 10 + 2 * length ds = omega (arith, length-digits X) in
     let b0 : getD (bytes (digits X)) 0 0 ≡ length ds = ap (λ xs. getD xs 0 0) b in
-    let o : getD X 1 0 * 256 + getD X 2 0 ≡ offset = omega arith in
+    let o : getD X 1 0 * 256 + getD X 2 0 ≡ offset = omega (arith, h .0) in
     let t : take (length ds) (drop 4 X) ≡ ds = take-at ds (s ∷ []) (length ds) refl in
     reading-summed (line r) (digits X) (length ds)
-    (digits-found (line r) (omega arith) refl (digits-are-digits X hX))
-    (count-good (digits X) (length ds) b0 (and-from _ _ (le-leb (length ds) 128 few) (eq-eqb _ _ ld)))
+    (digits-found (line r) (omega arith) refl (line-digits r h))
+    (count-good (digits X) (length ds) b0 (and-from _ _ (le-leb (length ds) 128 (h .2)) (eq-eqb _ _ ld)))
     (ap (λ xs. total xs % 256) b ∙ sum-byte-closes (fields r))
     ∙ ap (record-in (length ds)) b
     ∙ ap₂ (λ k xs. record-of (length ds) k 0 xs) o t
-    ∙ data-found (length ds) offset ds some few
+    ∙ data-found (length ds) offset ds (h .1) (h .2)
 
 -- what an accepted line tells
 then-ok : {X Y : Type 0} (r : Result X RecordFault) (f : X → Result Y RecordFault) (y : Y) → then r f ≡ Ok y

@@ -1,4 +1,5 @@
 pub mod Closing
 pub mod Heads
 pub mod Tallies
+pub mod Accepted
 pub mod Texts

@@ -51,3 +51,7 @@ Surveyed t (Ok s) = (rs : List Content) × All Sound rs × (t ≡ file rs) × (s
 Surveyed t (Err e) =
     (rs : List Content) × (rest : List ℕ) × All Sound rs × (t ≡ file rs ++ rest) × (1 ≤ length rest)
     × (e .line ≡ length rs + 1) × (first-record rest ≡ Err (e .fault))
+
+-- every file of records is accepted, with their tally
+abbrev pub Accepts : List ℕ → Result Survey Refused → Type 0
+Accepts t a = (rs : List Content) → All Sound rs → t ≡ file rs → a ≡ Ok (tally rs)

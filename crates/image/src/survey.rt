@@ -4,7 +4,7 @@ ghost use lib.ListN.{length};
 ghost use Rattle.std.specs.declared.option.Option.the-variants.{Some};
 ghost use Rattle.ihex.specs.Meaning.{content};
 ghost use Rattle.image.specs.Prints.{survey-text};
-ghost use Rattle.image.specs.Surveys.{nothing-yet, added, Surveyed, bytes-in};
+ghost use Rattle.image.specs.Surveys.{nothing-yet, added, Accepts, Surveyed, bytes-in};
 use crate::entry::next_record;
 use crate::offsets::Offsets;
 use crate::offsets::OffsetsDebug;
@@ -54,7 +54,8 @@ impl Survey {
 
     // What the file of this text holds, line by line, or the first line that is turned down.
     pub fn of(text: &[u8]) -> Result<Survey, Refused>
-        ensures { λ r. ⌜ Surveyed (now (text .entry)) r ⌝ }
+        ensures surveyed { λ r. ⌜ Surveyed (now (text .entry)) r ⌝ }
+        ensures accepts { λ r. ⌜ Accepts (now (text .entry)) r ⌝ }
     {
         let mut survey = Survey::new();
         let mut rest = text;

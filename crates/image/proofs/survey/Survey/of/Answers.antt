@@ -5,11 +5,13 @@ use native.Mathlib.Omega.{arith}
 use lib.ListN.{length, drop}
 use Rattle.std.proofs.shelf.Elements.{all-push}
 use Rattle.std.proofs.shelf.Lists.{length-append, length-push, take-rest, append-nil, nil-from-length}
-use Rattle.std.proofs.shelf.Tests.{eqb-true}
+use Rattle.std.proofs.shelf.Tests.{eqb-false, eqb-true}
+use Rattle.std.specs.declared.result.Result.the-variants.{Ok, Err}
 use Rattle.ihex.specs.Content.{Sound}
 use Rattle.ihex.specs.Meaning.{content}
 use Rattle.image.specs.Files.{closed, file}
-use Rattle.image.specs.Surveys.{added}
+use Rattle.image.specs.Surveys.{added, Surveyed}
+use Rattle.image.proofs.Accepted.{survey-accepts}
 use Rattle.image.proofs.Tallies.{tally-push, file-push, closed-long, file-lines, tally-records, tally-bytes}
 use Rattle.image.proofs.survey.Survey.of.Needs as need
 
@@ -46,8 +48,20 @@ loop-rest-again c =
       omega (arith, inv .4, length-push rs r),
     )
 
+pub returns-in-Err : need.returns-in-Err
+returns-in-Err c =
+    let inv = c .loop-rest .inv in
+    let rest = c .loop-rest .rest .now in
+    let some = eqb-false (length rest) 0 (sym (c .loop-rest-test .ensures tt)) in
+    let s : Surveyed (c .args .text .now) (Err (record { line = c .loop-rest .line; fault = c .in-Err .fault })) =
+    (inv .0, rest, inv .1, inv .2, omega arith, inv .4, sym (c .in-Err .ensures tt .answer)) in
+    record { surveyed = s; accepts = survey-accepts (c .args .text .now) (Err (record { line = c .loop-rest .line; fault = c .in-Err .fault })) s }
+
 pub returns : need.returns
 returns c =
     let inv = c .loop-rest .inv in
     let rs = inv .0 in
-    (rs, inv .1, inv .2 ∙ ap (λ xs. file rs ++ xs) (nil-from-length (c .loop-rest .rest .now) (eqb-true _ 0 (sym (c .loop-rest-test .ensures tt)))) ∙ append-nil (file rs), inv .3)
+    let none = nil-from-length (c .loop-rest .rest .now) (eqb-true _ 0 (sym (c .loop-rest-test .ensures tt))) in
+    let s : Surveyed (c .args .text .now) (Ok (c .loop-rest .survey)) =
+    (rs, inv .1, inv .2 ∙ ap (λ xs. file rs ++ xs) none ∙ append-nil (file rs), inv .3) in
+    record { surveyed = s; accepts = survey-accepts (c .args .text .now) (Ok (c .loop-rest .survey)) s }
