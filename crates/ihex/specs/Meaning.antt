@@ -19,8 +19,11 @@ referred x = x .now
 abbrev pub data-of : DataRecord → List ℕ
 data-of d = take (d .len) (d .bytes)
 
+abbrev pub data-content : DataRecord → Content
+data-content d = data-at (d .offset) (data-of d)
+
 abbrev pub content : Record → Content
-content (Data d) = data-at (d .offset) (data-of d)
+content (Data d) = data-content d
 content End = end-of-file
 
 abbrev pub refusal-of : RecordFault → Refusal

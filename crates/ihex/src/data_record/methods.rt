@@ -1,7 +1,7 @@
 ghost use mathlib.Core.Path.{_≡_};
 ghost use Rattle.refusal.specs.Answers.{answer};
-ghost use Rattle.ihex.specs.Content.{data-at, is-data};
-ghost use Rattle.ihex.specs.Meaning.{data-of};
+ghost use Rattle.ihex.specs.Content.{is-data};
+ghost use Rattle.ihex.specs.Meaning.{data-content, data-of};
 ghost use Rattle.ihex.specs.Reading.{data-record};
 use crate::data_record::DataRecord;
 use crate::data_record::MAX_DATA;
@@ -17,7 +17,7 @@ fn has_data(len: usize) -> bool
 impl DataRecord {
     // The record of these bytes at this offset, or a refusal where there are none or more than 128.
     pub fn new(offset: u16, data: &[u8]) -> Result<Self, RecordFault>
-        ensures { λ r. ⌜ answer (λ d. data-at (d .offset) (data-of d)) r ≡ data-record offset (now («data» .entry)) ⌝ }
+        ensures { λ r. ⌜ answer data-content r ≡ data-record offset (now («data» .entry)) ⌝ }
     {
         let len = data.len();
         if !has_data(len) {
