@@ -1,11 +1,11 @@
 -- bytes and their digits
-use mathlib.Core.Path.{_≡_, refl, sym, _∙_, ap, ap₂}
+use mathlib.Core.Path.{_≡_, refl, _∙_, ap, ap₂}
 use mathlib.Core.List.{List, [], _∷_, _++_}
-use mathlib.Core.Bool.{true, false, _&&_}
+use mathlib.Core.Bool.{true, _&&_}
 use Prim.Native.Nat.{ℕ, zero, suc, _+_, _*_, _/_, _%_, _<_}
 use native.Mathlib.Omega.{arith}
-use lib.Dec.{leb, ltb}
-use lib.ListN.{length, getD, drop}
+use lib.Dec.{ltb}
+use lib.ListN.{length, getD}
 use Rattle.std.proofs.shelf.Tests.{and-parts, and-from, ltb-true, lt-ltb}
 use Rattle.std.proofs.shelf.Ways.{tells}
 use Rattle.ihex.specs.Digits.{digit, is-digit, value, all-digits, digits, bytes, octets}

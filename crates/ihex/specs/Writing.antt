@@ -1,12 +1,11 @@
 -- writing a line to the front of a buffer
-use mathlib.Core.Path.{_≡_}
 use mathlib.Core.List.{List, _++_}
 use mathlib.Core.Bool.{cond}
 use Prim.Native.Nat.{ℕ}
 use lib.Dec.{ltb}
 use lib.ListN.{length, drop}
 use Rattle.std.specs.declared.result.Result.{Result}
-use Rattle.std.specs.declared.result.Result.the-variants.{Ok, Err}
+use Rattle.std.specs.declared.result.Result.the-variants.{Ok}
 use Rattle.refusal.specs.Answers.{refuse}
 use Rattle.ihex.specs.Content.{Content, line}
 use Rattle.refusal.specs.declared.BufferTooShort.{BufferTooShort}

@@ -1,9 +1,9 @@
 -- what an accepted line tells of its text
 use mathlib.Core.Path.{_≡_, refl, sym, ap, ap₂, _∙_}
 use mathlib.Core.List.{List, [], _∷_, _++_}
-use mathlib.Core.Bool.{Bool, true, false, cond, _&&_}
+use mathlib.Core.Bool.{Bool, _&&_}
 use mathlib.Core.Logic.{⊎-elim}
-use Prim.Native.Nat.{ℕ, zero, suc, _+_, _≤_, _<_}
+use Prim.Native.Nat.{ℕ, suc, _+_, _≤_}
 use native.Mathlib.Omega.{arith}
 use lib.Dec.{eqb, ltb}
 use lib.ListN.{length, getD, take, drop}
@@ -13,14 +13,13 @@ use Rattle.std.specs.Options.{mapped}
 use Rattle.std.specs.declared.option.Option.{Option}
 use Rattle.std.specs.declared.option.Option.the-variants.{Some, None}
 use Rattle.std.specs.declared.result.Result.{Result}
-use Rattle.std.specs.declared.result.Result.the-variants.{Ok, Err}
+use Rattle.std.specs.declared.result.Result.the-variants.{Ok}
 use Rattle.refusal.specs.Answers.{then}
 use Rattle.ihex.specs.Content.{Content, line, Sound}
 use Rattle.ihex.specs.Reading.{reading}
 use Rattle.ihex.specs.declared.fault.RecordFault.{RecordFault}
 use Rattle.image.specs.Files.{Head, closed, record-of-line, first-record, Begins}
 use Rattle.image.specs.Lines.{Cut, close, cut-at, first-line}
-use Rattle.image.specs.declared.fault.ImageFault.{ImageFault}
 
 next-place : (o : Option ℕ) (n : ℕ) → mapped suc o ≡ Some n → (m : ℕ) × (o ≡ Some m) × (n ≡ suc m)
 next-place None n h = let z : _≡_ {A = ℕ} 0 1 = cc in absurd (omega arith)

@@ -4,7 +4,7 @@ use mathlib.Core.List.{List, [], _∷_, _++_}
 use Prim.Native.Nat.{ℕ, _+_, _*_, _≤_}
 use native.Mathlib.Omega.{arith}
 use lib.ListN.{length}
-use Rattle.std.proofs.shelf.Lists.{append-assoc, append-nil, joined-more, length-append}
+use Rattle.std.proofs.shelf.Lists.{append-assoc, joined-more, length-append}
 use Rattle.ihex.specs.Content.{Content, data-at, end-of-file, line}
 use Rattle.ihex.proofs.WriteSteps.{line-length}
 use Rattle.image.specs.Files.{closed, file}

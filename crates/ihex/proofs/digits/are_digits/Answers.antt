@@ -1,9 +1,9 @@
-use mathlib.Core.Path.{_≡_, sym, ap, _∙_}
+use mathlib.Core.Path.{sym, ap, _∙_}
 use mathlib.Core.Bool.{_&&_}
 use Prim.Native.Nat.{_+_}
-use lib.ListN.{getD, drop}
+use lib.ListN.{drop}
 use Rattle.std.proofs.shelf.Lists.{at-drop-more, at-drop-all}
-use Rattle.ihex.specs.Digits.{is-digit, all-digits}
+use Rattle.ihex.specs.Digits.{all-digits}
 use Rattle.ihex.proofs.digits.are_digits.Needs as need
 
 pub returns-then-not-is-upper-digit : need.returns-then-not-is-upper-digit

@@ -1,9 +1,5 @@
-use mathlib.Core.Path.{_≡_, refl, sym, ap, _∙_}
-use mathlib.Core.List.{_++_}
-use Prim.Native.Nat.{_-_, _≤_}
-use native.Mathlib.Omega.{arith}
-use lib.ListN.{length, take, drop, replicate}
-use Rattle.std.proofs.shelf.Ways.{tells}
+use mathlib.Core.Path.{sym}
+use lib.ListN.{length}
 use Rattle.ihex.proofs.Octets.{octets-from}
 use Rattle.ihex.proofs.Stored.{size-told, room, narrow, made-data}
 use Rattle.ihex.proofs.data_record.DataRecord.new.Needs as need

@@ -2,7 +2,7 @@ use mathlib.Core.Path.{_≡_, sym, ap, ap₂, _∙_}
 use mathlib.Core.List.{_++_}
 use Prim.Native.Nat.{_+_, _*_, _%_, _≤_, _<_}
 use native.Mathlib.Omega.{arith}
-use lib.ListN.{length, take, drop}
+use lib.ListN.{length}
 use Rattle.std.proofs.shelf.Lists.{take-append-drop}
 use Rattle.std.specs.declared.result.Result.the-variants.{Ok}
 use Rattle.ihex.specs.Content.{line, complement, fields, sum-byte}
