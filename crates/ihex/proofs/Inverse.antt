@@ -12,7 +12,7 @@ use Rattle.std.specs.declared.result.Result.{Result}
 use Rattle.std.specs.declared.result.Result.the-variants.{Ok, Err}
 use Rattle.refusal.specs.Answers.{then, answer}
 use Rattle.ihex.specs.Content.{Content, data-at, end-of-file, fields, line, sum-byte, Sound}
-use Rattle.ihex.specs.Digits.{all-digits, digits, bytes, octets, total}
+use Rattle.ihex.specs.Digits.{all-digits, digits, bytes-of, octets, total}
 use Rattle.ihex.specs.Laws.{Reads-back, Canonical}
 use Rattle.ihex.specs.Meaning.{content}
 use Rattle.ihex.specs.Reading.{digits-in, counted, summed, record-of, record-in, reading}
@@ -55,10 +55,10 @@ reads-back (data-at offset ds) h =
     let r : Content = data-at offset ds in
     let s : ℕ = sum-byte (fields r) in
     let X : List ℕ = fields r ++ s ∷ [] in
-    let b : bytes (digits X) ≡ X = bytes-digits X (line-octets r h) in
+    let b : bytes-of (digits X) ≡ X = bytes-digits X (line-octets r h) in
     let lX : length X ≡ 5 + length ds = omega (arith, length-append ds (s ∷ [])) in
     let ld : length (digits X) ≡ 10 + 2 * length ds = omega (arith, length-digits X) in
-    let b0 : getD (bytes (digits X)) 0 0 ≡ length ds = ap (λ xs. getD xs 0 0) b in
+    let b0 : getD (bytes-of (digits X)) 0 0 ≡ length ds = ap (λ xs. getD xs 0 0) b in
     let o : getD X 1 0 * 256 + getD X 2 0 ≡ offset = omega (arith, h .0) in
     let t : take (length ds) (drop 4 X) ≡ ds = take-at ds (s ∷ []) (length ds) refl in
     reading-summed (line r) (digits X) (length ds)
@@ -89,10 +89,10 @@ module _ (t ds : List ℕ) (h : digits-in t ≡ Ok ds) where
   told-rest = grind (arith, tells)
 
 module _ (ds : List ℕ) (n : ℕ) (h : counted ds ≡ Ok n) where
-  told-count : getD (bytes ds) 0 0 ≡ n
+  told-count : getD (bytes-of ds) 0 0 ≡ n
   told-count = grind (arith, tells)
 
-  told-length : length ds ≡ 10 + 2 * getD (bytes ds) 0 0
+  told-length : length ds ≡ 10 + 2 * getD (bytes-of ds) 0 0
   told-length = grind (arith, tells)
 
 module _ (bs xs : List ℕ) (h : summed bs ≡ Ok xs) where
@@ -169,12 +169,12 @@ first-then (c ∷ t) l h = ap (λ x. x ∷ t) h
 
 line-told : (t : List ℕ) (r : Content) → reading t ≡ Ok r → t ≡ line r
 line-told t r h =
-    let p = then-ok (digits-in t) (λ ds. then (counted ds) (λ n. then (summed (bytes ds)) (record-in n))) r h in
+    let p = then-ok (digits-in t) (λ ds. then (counted ds) (λ n. then (summed (bytes-of ds)) (record-in n))) r h in
     let ds : List ℕ = p .0 in
-    let q = then-ok (counted ds) (λ n. then (summed (bytes ds)) (record-in n)) r (p .2) in
+    let q = then-ok (counted ds) (λ n. then (summed (bytes-of ds)) (record-in n)) r (p .2) in
     let n : ℕ = q .0 in
-    let u = then-ok (summed (bytes ds)) (record-in n) r (q .2) in
-    let Y : List ℕ = bytes ds in
+    let u = then-ok (summed (bytes-of ds)) (record-in n) r (q .2) in
+    let Y : List ℕ = bytes-of ds in
     let count : getD Y 0 0 ≡ n = told-count ds n (q .1) in
     let lds : length ds ≡ 10 + 2 * getD Y 0 0 = told-length ds n (q .1) in
     let rest : ds ≡ drop 1 t = told-rest t ds (p .1) in

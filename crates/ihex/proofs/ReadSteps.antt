@@ -10,7 +10,7 @@ use Rattle.std.proofs.shelf.Tests.{cond-true, cond-false}
 use Rattle.std.proofs.shelf.Ways.{tells}
 use Rattle.std.specs.declared.result.Result.the-variants.{Ok, Err}
 use Rattle.refusal.specs.Answers.{then}
-use Rattle.ihex.specs.Digits.{bytes, total, all-digits}
+use Rattle.ihex.specs.Digits.{bytes-of, total, all-digits}
 use Rattle.ihex.specs.Reading.{digits-in, is-counted, counted, summed, record-in, reading}
 use Rattle.ihex.specs.declared.fault.RecordFault.the-variants.{Count, Sum}
 
@@ -31,7 +31,7 @@ digits-found t l c h = grind (arith, tells)
 pub count-told : (n digits : ℕ) → is-counted n digits ≡ true → (n ≤ 128) × (digits ≡ 10 + 2 * n)
 count-told n digits h = (grind (arith, tells), grind (arith, tells))
 
-module _ (ds : List ℕ) (n : ℕ) (e : getD (bytes ds) 0 0 ≡ n) where
+module _ (ds : List ℕ) (n : ℕ) (e : getD (bytes-of ds) 0 0 ≡ n) where
   pub count-bad : is-counted n (length ds) ≡ false → counted ds ≡ Err Count
   count-bad h = cond-true _ _ _ (ap (λ k. not (is-counted k (length ds))) e ∙ ap not h)
 
@@ -46,13 +46,13 @@ sum-bad bs h = grind (arith, tells)
 
 -- what is left once the digits and the count are found
 module _ (t ds : List ℕ) (n : ℕ) (hd : digits-in t ≡ Ok ds) (hc : counted ds ≡ Ok n) where
-  reading-counted : reading t ≡ then (summed (bytes ds)) (record-in n)
+  reading-counted : reading t ≡ then (summed (bytes-of ds)) (record-in n)
   reading-counted =
-      ap (λ r. then r (λ ds. then (counted ds) (λ n. then (summed (bytes ds)) (record-in n)))) hd
-      ∙ ap (λ r. then r (λ n. then (summed (bytes ds)) (record-in n))) hc
+      ap (λ r. then r (λ ds. then (counted ds) (λ n. then (summed (bytes-of ds)) (record-in n)))) hd
+      ∙ ap (λ r. then r (λ n. then (summed (bytes-of ds)) (record-in n))) hc
 
-  pub reading-bad-sum : (total (bytes ds) % 256 ≡ 0 → ⊥) → reading t ≡ Err Sum
-  reading-bad-sum h = reading-counted ∙ ap (λ a. then a (record-in n)) (sum-bad (bytes ds) h)
+  pub reading-bad-sum : (total (bytes-of ds) % 256 ≡ 0 → ⊥) → reading t ≡ Err Sum
+  reading-bad-sum h = reading-counted ∙ ap (λ a. then a (record-in n)) (sum-bad (bytes-of ds) h)
 
-  pub reading-summed : total (bytes ds) % 256 ≡ 0 → reading t ≡ record-in n (bytes ds)
-  reading-summed h = reading-counted ∙ ap (λ a. then a (record-in n)) (sum-good (bytes ds) h)
+  pub reading-summed : total (bytes-of ds) % 256 ≡ 0 → reading t ≡ record-in n (bytes-of ds)
+  reading-summed h = reading-counted ∙ ap (λ a. then a (record-in n)) (sum-good (bytes-of ds) h)

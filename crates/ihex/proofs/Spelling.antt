@@ -8,7 +8,7 @@ use lib.Dec.{ltb}
 use lib.ListN.{length, getD}
 use Rattle.std.proofs.shelf.Tests.{and-parts, and-from, ltb-true, lt-ltb}
 use Rattle.std.proofs.shelf.Ways.{tells}
-use Rattle.ihex.specs.Digits.{digit, is-digit, value, all-digits, digits, bytes, octets}
+use Rattle.ihex.specs.Digits.{digit, is-digit, value, all-digits, digits, bytes-of, octets}
 
 -- one digit
 pub value-digit : (n : ℕ) → n < 16 → value (digit n) ≡ n
@@ -54,13 +54,13 @@ digits-are-digits (b ∷ bs) h =
     (and-from (is-digit (digit (b % 16))) _ (digit-is-digit (b % 16) (omega arith)) (digits-are-digits bs (p .1)))
 
 -- bytes from digits
-pub length-bytes : (cs : List ℕ) → length (bytes cs) ≡ length cs / 2
+pub length-bytes : (cs : List ℕ) → length (bytes-of cs) ≡ length cs / 2
 length-bytes [] = refl
 length-bytes (a ∷ []) = refl
 length-bytes (a ∷ b ∷ cs) = let h = length-bytes cs in omega arith
 
 pub bytes-at : (cs : List ℕ) (i : ℕ) → i < length cs / 2
-    → getD (bytes cs) i 0 ≡ value (getD cs (2 * i) 0) * 16 + value (getD cs (2 * i + 1) 0)
+    → getD (bytes-of cs) i 0 ≡ value (getD cs (2 * i) 0) * 16 + value (getD cs (2 * i + 1) 0)
 bytes-at [] i l = absurd (omega arith)
 bytes-at (a ∷ []) i l = absurd (omega arith)
 bytes-at (a ∷ b ∷ cs) zero l = refl
@@ -69,7 +69,7 @@ bytes-at (a ∷ b ∷ cs) (suc i) l =
     let q : suc (suc (2 * i + 1)) ≡ 2 * suc i + 1 = omega arith in
     bytes-at cs i (omega arith) ∙ ap₂ (λ j k. value (getD (a ∷ b ∷ cs) j 0) * 16 + value (getD (a ∷ b ∷ cs) k 0)) p q
 
-pub bytes-are-octets : (cs : List ℕ) → all-digits cs ≡ true → octets (bytes cs) ≡ true
+pub bytes-are-octets : (cs : List ℕ) → all-digits cs ≡ true → octets (bytes-of cs) ≡ true
 bytes-are-octets [] h = refl
 bytes-are-octets (a ∷ []) h = refl
 bytes-are-octets (a ∷ b ∷ cs) h =
@@ -79,7 +79,7 @@ bytes-are-octets (a ∷ b ∷ cs) h =
     and-from (ltb (value a * 16 + value b) 256) _ (lt-ltb _ 256 (omega arith)) (bytes-are-octets cs (p .2))
 
 -- each is the other's inverse
-pub bytes-digits : (bs : List ℕ) → octets bs ≡ true → bytes (digits bs) ≡ bs
+pub bytes-digits : (bs : List ℕ) → octets bs ≡ true → bytes-of (digits bs) ≡ bs
 bytes-digits [] h = refl
 bytes-digits (b ∷ bs) h =
     let p = and-parts (ltb b 256) (octets bs) h in
@@ -88,7 +88,7 @@ bytes-digits (b ∷ bs) h =
     omega (arith, value-digit (b / 16) (omega arith), value-digit (b % 16) (omega arith)) in
     ap₂ (λ x xs. x ∷ xs) e (bytes-digits bs (p .1))
 
-pub digits-bytes : (cs : List ℕ) → all-digits cs ≡ true → length cs % 2 ≡ 0 → digits (bytes cs) ≡ cs
+pub digits-bytes : (cs : List ℕ) → all-digits cs ≡ true → length cs % 2 ≡ 0 → digits (bytes-of cs) ≡ cs
 digits-bytes [] h e = refl
 digits-bytes (a ∷ []) h e = absurd (omega arith)
 digits-bytes (a ∷ b ∷ cs) h e =

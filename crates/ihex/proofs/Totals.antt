@@ -4,21 +4,17 @@ use mathlib.Core.List.{List, [], _∷_, _++_}
 use Prim.Native.Nat.{ℕ, zero, suc, _+_, _-_, _*_, _/_, _%_, _<_}
 use native.Mathlib.Omega.{arith}
 use lib.ListN.{length, getD, take}
-use Rattle.std.proofs.shelf.Lists.{take-more}
+use Rattle.std.proofs.shelf.Sums.{sumBy-append, sumBy-more}
 use Rattle.ihex.specs.Content.{sum-byte}
 use Rattle.ihex.specs.Digits.{total}
 
 pub total-append : (xs ys : List ℕ) → total (xs ++ ys) ≡ total xs + total ys
-total-append [] ys = omega arith
-total-append (x ∷ xs) ys = let h = total-append xs ys in omega arith
+total-append xs ys = sumBy-append (λ x. x) xs ys
 
 -- one byte more in the kept total
 pub total-more : (s i : ℕ) (bs : List ℕ) → i < length bs
     → ((s + total (take i bs)) % 256 + getD bs i 0) % 256 ≡ (s + total (take (i + 1) bs)) % 256
-total-more s i bs l =
-    let e : total (take (i + 1) bs) ≡ total (take i bs) + (getD bs i 0 + 0) =
-    ap total (take-more bs i 0 l) ∙ total-append (take i bs) (getD bs i 0 ∷ []) in
-    omega arith
+total-more s i bs l = omega (arith, sumBy-more (λ x. x) bs i 0 l)
 
 -- with the sum byte the total is 0, and no other byte does it
 pub sum-byte-closes : (bs : List ℕ) → total (bs ++ sum-byte bs ∷ []) % 256 ≡ 0

@@ -3,6 +3,7 @@ use mathlib.Core.List.{List, [], _∷_}
 use mathlib.Core.Bool.{Bool, true, cond, _&&_, _||_}
 use Prim.Native.Nat.{ℕ, _+_, _-_, _*_, _/_, _%_}
 use lib.Dec.{leb, ltb}
+use Rattle.std.specs.shelf.Lists.{sum}
 
 -- the character of a value below 16
 abbrev pub digit : ℕ → ℕ
@@ -26,10 +27,10 @@ digits [] = []
 digits (b ∷ bs) = digit (b / 16) ∷ digit (b % 16) ∷ digits bs
 
 -- the bytes of some digits; an odd last one counts for nothing
-abbrev pub bytes : List ℕ → List ℕ
-bytes [] = []
-bytes (a ∷ []) = []
-bytes (a ∷ b ∷ cs) = (value a * 16 + value b) ∷ bytes cs
+abbrev pub bytes-of : List ℕ → List ℕ
+bytes-of [] = []
+bytes-of (a ∷ []) = []
+bytes-of (a ∷ b ∷ cs) = (value a * 16 + value b) ∷ bytes-of cs
 
 -- every number is one of 8 bits
 abbrev pub octets : List ℕ → Bool
@@ -37,5 +38,4 @@ octets [] = true
 octets (b ∷ bs) = ltb b 256 && octets bs
 
 abbrev pub total : List ℕ → ℕ
-total [] = 0
-total (b ∷ bs) = b + total bs
+total bs = sum bs

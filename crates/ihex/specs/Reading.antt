@@ -8,7 +8,7 @@ use Rattle.std.specs.declared.result.Result.{Result}
 use Rattle.std.specs.declared.result.Result.the-variants.{Ok}
 use Rattle.refusal.specs.Answers.{then, refuse}
 use Rattle.ihex.specs.Content.{Content, data-at, end-of-file, is-data}
-use Rattle.ihex.specs.Digits.{all-digits, bytes, total}
+use Rattle.ihex.specs.Digits.{all-digits, bytes-of, total}
 use Rattle.ihex.specs.declared.fault.RecordFault.{RecordFault}
 use Rattle.ihex.specs.declared.fault.RecordFault.the-variants.{Short, NoColon, NotADigit, Count, Sum, Unknown}
 
@@ -26,7 +26,7 @@ is-counted n digits = leb n 128 && eqb digits (10 + 2 * n)
 
 -- the count, if there are as many digits as it says
 abbrev pub counted : List ℕ → Result ℕ RecordFault
-counted ds = let n = getD (bytes ds) 0 0 in refuse (not (is-counted n (length ds))) Count (Ok n)
+counted ds = let n = getD (bytes-of ds) 0 0 in refuse (not (is-counted n (length ds))) Count (Ok n)
 
 -- the bytes, if they total 0 modulo 256
 abbrev pub summed : List ℕ → Result (List ℕ) RecordFault
@@ -47,4 +47,4 @@ abbrev pub record-in : ℕ → List ℕ → Result Content RecordFault
 record-in n bs = record-of n (getD bs 1 0 * 256 + getD bs 2 0) (getD bs 3 0) (take n (drop 4 bs))
 
 abbrev pub reading : List ℕ → Result Content RecordFault
-reading text = then (digits-in text) (λ ds. then (counted ds) (λ n. then (summed (bytes ds)) (record-in n)))
+reading text = then (digits-in text) (λ ds. then (counted ds) (λ n. then (summed (bytes-of ds)) (record-in n)))

@@ -7,7 +7,7 @@ ghost use Prim.Native.Nat.{_+_, _*_, _/_, _%_, _<_, _≤_};
 ghost use lib.ListN.{length, drop};
 ghost use Rattle.std.specs.Vec.{made};
 ghost use Rattle.refusal.specs.Answers.{answer};
-ghost use Rattle.ihex.specs.Digits.{is-digit, value, all-digits, bytes, total};
+ghost use Rattle.ihex.specs.Digits.{is-digit, value, all-digits, bytes-of, total};
 ghost use Rattle.ihex.specs.Laws.{Canonical};
 ghost use Rattle.ihex.specs.Meaning.{content, referred};
 ghost use Rattle.ihex.specs.Reading.{digits-in, is-counted, counted, record-in, reading};
@@ -68,8 +68,8 @@ fn check_count(digits: &[u8]) -> Result<usize, RecordFault>
 // Writes the byte of each pair of digits at the front of `out`, and answers their total modulo 256.
 fn decode(digits: &[u8], out: &mut [u8]) -> u8
     requires { ⌜ all-digits (now digits) ≡ true ⌝ ∗ ⌜ length (now digits) / 2 ≤ length (now out) ⌝ }
-    ensures sum { λ r. ⌜ r ≡ total (bytes (now (digits .entry))) % 256 ⌝ }
-    ensures out { λ _. ⌜ now (out .exit) ≡ bytes (now (digits .entry)) ++ drop (length (now (digits .entry)) / 2) (now (out .entry)) ⌝ }
+    ensures sum { λ r. ⌜ r ≡ total (bytes-of (now (digits .entry))) % 256 ⌝ }
+    ensures out { λ _. ⌜ now (out .exit) ≡ bytes-of (now (digits .entry)) ++ drop (length (now (digits .entry)) / 2) (now (out .entry)) ⌝ }
 {
     let mut sum = 0u8;
     for i in 0..digits.len() / 2 {

@@ -41,10 +41,10 @@ fn write_bytes(out: &mut [u8], at: usize, bytes: &[u8], start: u8) -> u8
 }
 
 // The byte that makes the total 0 modulo 256.
-fn sum_byte(total: u8) -> u8
-    ensures { λ r. ⌜ r ≡ complement total ⌝ }
+fn sum_byte(sum: u8) -> u8
+    ensures { λ r. ⌜ r ≡ complement sum ⌝ }
 {
-    total.wrapping_neg()
+    sum.wrapping_neg()
 }
 
 impl Record {

@@ -1,5 +1,6 @@
 -- answers that may be refusals
 use mathlib.Core.Bool.{Bool, cond}
+use Rattle.std.specs.Results.{mapped}
 use Rattle.std.specs.declared.result.Result.{Result}
 use Rattle.std.specs.declared.result.Result.the-variants.{Ok, Err}
 
@@ -14,5 +15,4 @@ refuse b e r = cond b (Err e) r
 
 -- an answer by what it means
 abbrev pub answer : {X Y E : Type 0} → (X → Y) → Result X E → Result Y E
-answer f (Ok x) = Ok (f x)
-answer f (Err e) = Err e
+answer f r = mapped f (λ e. e) r

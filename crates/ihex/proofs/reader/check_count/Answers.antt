@@ -3,7 +3,7 @@ use mathlib.Core.List.{List}
 use Prim.Native.Nat.{ℕ, _+_, _*_, _≤_}
 use native.Mathlib.Omega.{arith}
 use lib.ListN.{length, getD}
-use Rattle.ihex.specs.Digits.{value, bytes}
+use Rattle.ihex.specs.Digits.{value, bytes-of}
 use Rattle.ihex.proofs.ReadSteps.{count-bad, count-good, count-told}
 use Rattle.ihex.proofs.Spelling.{digit-at, bytes-at}
 use Rattle.ihex.proofs.reader.check_count.Needs as need
@@ -15,7 +15,7 @@ pub value-of-requires-2 : need.value-of-requires-2
 value-of-requires-2 c κs = digit-at (c .args .digits .now) 1 (c .pre .0) (omega (arith, c .pre .1))
 
 module _ (ds : List ℕ) (x y : ℕ) (long : 10 ≤ length ds) (ex : x ≡ value (getD ds 0 0)) (ey : y ≡ value (getD ds 1 0)) where
-  count-is : getD (bytes ds) 0 0 ≡ x * 16 + y
+  count-is : getD (bytes-of ds) 0 0 ≡ x * 16 + y
   count-is = bytes-at ds 0 (omega arith) ∙ sym (ap₂ (λ x y. x * 16 + y) ex ey)
 
 pub returns-then-not-is-count : need.returns-then-not-is-count

@@ -4,7 +4,7 @@ use Prim.Native.Nat.{_+_, _*_, _/_, _%_, _<_}
 use native.Mathlib.Omega.{arith}
 use lib.ListN.{length, getD, set, take, drop}
 use Rattle.std.proofs.shelf.Lists.{take-all}
-use Rattle.ihex.specs.Digits.{bytes, total}
+use Rattle.ihex.specs.Digits.{bytes-of, total}
 use Rattle.ihex.proofs.ReadSteps.{copied-more}
 use Rattle.ihex.proofs.Spelling.{digit-at, bytes-at, length-bytes}
 use Rattle.ihex.proofs.Totals.{total-more}
@@ -20,7 +20,7 @@ pub loop-i-again : need.loop-i-again
 loop-i-again c =
     let t = c .args .digits .now in
     let i = c .loop-i .i in
-    let bs = bytes t in
+    let bs = bytes-of t in
     let l : i < length t / 2 = c .loop-i-test .taken in
     let lb : i < length bs = omega (arith, length-bytes t) in
     let b : c .value-of-high .result * 16 + c .value-of-low .result ≡ getD bs i 0 =
@@ -32,7 +32,7 @@ loop-i-again c =
 pub returns : need.returns
 returns c =
     let t = c .args .digits .now in
-    let bs = bytes t in
+    let bs = bytes-of t in
     let i = c .loop-i .i in
     let n : i ≡ length t / 2 = omega arith in
     let e : take i bs ≡ bs = take-all i bs (omega (arith, length-bytes t)) in

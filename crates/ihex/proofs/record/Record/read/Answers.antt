@@ -3,7 +3,7 @@ use Prim.Native.Nat.{_+_, _-_}
 use native.Mathlib.Omega.{arith}
 use lib.ListN.{take}
 use Rattle.std.proofs.shelf.Lists.{take-at}
-use Rattle.ihex.specs.Digits.{bytes}
+use Rattle.ihex.specs.Digits.{bytes-of}
 use Rattle.ihex.specs.Reading.{record-in}
 use Rattle.ihex.proofs.Inverse.{canonical}
 use Rattle.ihex.proofs.ReadSteps.{reading-bad-sum, reading-summed}
@@ -32,8 +32,8 @@ returns c =
     let e =
     reading-summed t ds n (c .in-Continue-digits .ensures tt .answer) (sym (c .in-Continue-count .ensures tt .answer))
     (sym (c .decode .ensures .sum) ∙ c .if-decode-ne-TOTAL .left) in
-    let part : take (5 + n - 0) (c .decode .last .out) ≡ bytes ds =
+    let part : take (5 + n - 0) (c .decode .last .out) ≡ bytes-of ds =
     ap (take (5 + n - 0)) (c .decode .ensures .out)
-    ∙ take-at (bytes ds) _ (5 + n - 0) (omega (arith, length-bytes ds, fits .1)) in
+    ∙ take-at (bytes-of ds) _ (5 + n - 0) (omega (arith, length-bytes ds, fits .1)) in
     let answer = c .find-record .ensures ∙ ap (record-in n) part ∙ sym e in
     record { answer = answer; canonical = canonical t _ answer }
