@@ -2,4 +2,3 @@ pub mod Closing
 pub mod Heads
 pub mod Tallies
 pub mod Accepted
-pub mod Texts

@@ -1,8 +1,12 @@
-// Cases of records.
+// Cases of records, on values: each answers the line that is printed.
 
-use crate::bytes;
-use crate::bytes::Bytes;
-use crate::bytes::BytesDisplay;
+ghost use mathlib.Core.Path.{_≡_};
+ghost use Rattle.std.specs.Of.String.{string-bytes};
+ghost use Rattle.std.specs.Vec.{made};
+ghost use Rattle.ihex.specs.Meaning.{content};
+ghost use Rattle.ihex.specs.Reading.{reading, data-record};
+ghost use Rattle.vectors.specs.Records.{record-words, read-words, data-written, buffer-written, write-words, blank};
+use crate::words::spell;
 use ihex::DataRecord;
 use ihex::Record;
 use ihex::RecordRefusal;
@@ -10,23 +14,28 @@ use refusal::BufferRefusal;
 use refusal::Refusal;
 use std::alloc::AllocError;
 use std::alloc::Global;
-use std::error::AnyError;
 
 // What a buffer is filled with before something is written to it.
 const BLANK: u8 = b'.';
 
-fn describe(heap: Global, record: Record) -> Result<String, AllocError> {
+fn describe(heap: Global, record: Record) -> Result<String, AllocError>
+    ensures { λ r. ⌜ made r (λ line. string-bytes line ≡ record-words (content «record»)) ⌝ }
+{
     match record {
-        Record::End => format!(heap, "end"),
+        Record::End => String::from_str(heap, "end"),
         Record::Data(data) => {
             let offset = data.offset();
-            let bytes = Bytes(data.data());
-            format!(heap, "data {offset} {bytes}")
+            let word = spell(heap, data.data())?;
+            let word = word.as_str();
+            format!(heap, "data {offset} {word}")
         }
     }
 }
 
-fn answer(heap: Global, text: &[u8]) -> Result<String, AllocError> {
+// The record that a text is.
+pub(crate) fn read(heap: Global, text: &[u8]) -> Result<String, AllocError>
+    ensures { λ r. ⌜ made r (λ line. string-bytes line ≡ read-words (reading (now (text .entry)))) ⌝ }
+{
     match Record::read(text) {
         Ok(record) => describe(heap, record),
         Err(fault) => {
@@ -36,53 +45,43 @@ fn answer(heap: Global, text: &[u8]) -> Result<String, AllocError> {
     }
 }
 
-// TEXT: the record that it is.
-pub(crate) fn read(heap: Global, text: Option<&str>) -> Result<String, AnyError> {
-    let text = bytes::parse(heap, text)?;
-    Ok(answer(heap, text.as_slice())?)
-}
-
-// TEXT, BYTE, LENGTH: the same of the text with that byte added until it has that length.
-pub(crate) fn read_padded(
-    heap: Global,
-    text: Option<&str>,
-    byte: Option<&str>,
-    length: Option<&str>,
-) -> Result<String, AnyError> {
-    let mut text = bytes::parse(heap, text)?;
-    let pad = bytes::parse(heap, byte)?;
-    let length: usize = length.ok_or("a length is missing")?.parse()?;
-    for _ in text.len()..length {
-        text.extend_from_slice(pad.as_slice())?;
-    }
-    Ok(answer(heap, text.as_slice())?)
-}
-
 // The length that is written of a data record, or the refusal.
-fn written(offset: u16, data: &[u8], out: &mut [u8]) -> Result<usize, Refusal> {
+fn write_data(offset: u16, data: &[u8], out: &mut [u8]) -> Result<usize, Refusal>
+    ensures answer { λ r. ⌜ r ≡ data-written (data-record offset (now («data» .entry))) (now (out .entry)) ⌝ }
+    ensures buffer { λ _. ⌜ now (out .exit) ≡ buffer-written (data-record offset (now («data» .entry))) (now (out .entry)) ⌝ }
+{
     let record = Record::Data(DataRecord::new(offset, data)?);
     Ok(record.write(out)?)
 }
 
-// OFFSET, DATA, LENGTH: a data record written to a buffer of that length.
-pub(crate) fn write(
+fn describe_written(
     heap: Global,
-    offset: Option<&str>,
-    data: Option<&str>,
-    length: Option<&str>,
-) -> Result<String, AnyError> {
-    let offset: u16 = offset.ok_or("an offset is missing")?.parse()?;
-    let data = bytes::parse(heap, data)?;
-    let length: u16 = length.ok_or("a length is missing")?.parse()?;
-    let mut out = vec![in heap; BLANK; length as usize]?;
-    let answer = written(offset, data.as_slice(), out.as_mut_slice());
-    let out = Bytes(out.as_slice());
-    let answer = match answer {
-        Ok(n) => format!(heap, "written {n} {out}")?,
+    answer: Result<usize, Refusal>,
+    out: &[u8],
+) -> Result<String, AllocError>
+    ensures { λ r. ⌜ made r (λ line. string-bytes line ≡ write-words answer (now (out .entry))) ⌝ }
+{
+    let word = spell(heap, out)?;
+    let word = word.as_str();
+    match answer {
+        Ok(n) => format!(heap, "written {n} {word}"),
         Err(refusal) => {
             let number = refusal.number();
-            format!(heap, "refused {number} {out}")?
+            format!(heap, "refused {number} {word}")
         }
-    };
-    Ok(answer)
+    }
+}
+
+// A data record written to a buffer of this length.
+pub(crate) fn write(
+    heap: Global,
+    offset: u16,
+    data: &[u8],
+    length: u16,
+) -> Result<String, AllocError>
+    ensures { λ r. ⌜ made r (λ line. string-bytes line ≡ write-words (data-written (data-record offset (now («data» .entry))) (blank length)) (buffer-written (data-record offset (now («data» .entry))) (blank length))) ⌝ }
+{
+    let mut out = vec![in heap; BLANK; length as usize]?;
+    let answer = write_data(offset, data, out.as_mut_slice());
+    describe_written(heap, answer, out.as_slice())
 }

@@ -6,7 +6,7 @@ use lib.ListN.{getD}
 use lib.Utf8.{encode}
 use Rattle.std.proofs.Writes.{put-is}
 use Rattle.ihex.specs.Digits.{digits}
-use Rattle.image.proofs.Texts.{encoded-byte}
+use Rattle.ihex.proofs.Characters.{encoded-byte}
 use Rattle.image.proofs.offsets.HexDisplay.fmt.Needs as need
 
 pub returns : need.returns
