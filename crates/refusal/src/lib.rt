@@ -48,3 +48,15 @@ pub impl From<BufferTooShort> for Refusal as BufferRefusal {
         Refusal::BufferTooShort
     }
 }
+
+// A frame is unsound, of a sort that is not expected here, or of a length that no lane carries.
+#[derive(Clone, Copy, PartialEq, Eq, Debug)]
+pub struct UnsoundFrame;
+
+pub impl From<UnsoundFrame> for Refusal as FrameRefusal {
+    ghost converts = { λ _ r. r ≡ reason.UnsoundFrame };
+
+    fn from(_fault: UnsoundFrame) -> Refusal {
+        Refusal::UnsoundFrame
+    }
+}
