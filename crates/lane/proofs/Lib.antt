@@ -1,0 +1,2 @@
+pub mod Worns
+pub mod Drops

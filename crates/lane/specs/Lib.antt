@@ -1,0 +1,4 @@
+pub mod Worn
+pub mod Carried
+pub mod Calls
+pub mod Drops

@@ -1,0 +1,14 @@
+ghost use mathlib.Core.Path.{_≡_};
+ghost use Rattle.lane.specs.Carried.{is-carried};
+
+// The fewest and the most octets of a frame that a lane carries.
+const MIN_FRAME: usize = 2;
+
+pub const MAX_FRAME: usize = 269;
+
+// Whether a lane carries frames of this length.
+pub fn carries(length: usize) -> bool
+    ensures { λ r. ⌜ r ≡ is-carried length ⌝ }
+{
+    MIN_FRAME <= length && length <= MAX_FRAME
+}

@@ -1,0 +1,19 @@
+ghost use Rattle.lane.specs.Calls.{Passed};
+use crate::interface::Lane;
+use crate::length::MAX_FRAME;
+use refusal::UnsoundFrame;
+
+// Puts a frame on a lane, and takes from it once.
+pub fn put_then_take<L: Lane>(
+    lane: &mut L,
+    frame: &[u8],
+    buffer: &mut [u8; MAX_FRAME],
+) -> Result<Option<usize>, UnsoundFrame>
+    ensures { λ r. ⌜ Passed (waiting (now (lane .entry))) (now (frame .entry)) (now (buffer .entry)) r (waiting (now (lane .exit))) (now (buffer .exit)) ⌝ }
+{
+    lane.put(frame)?;
+    match lane.take(buffer) {
+        Ok(taken) => Ok(taken),
+        Err(_) => unreachable(),
+    }
+}
