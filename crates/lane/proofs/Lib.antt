@@ -1,2 +1,3 @@
 pub mod Worns
+pub mod Carrying
 pub mod Drops

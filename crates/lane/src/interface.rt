@@ -1,10 +1,11 @@
+ghost use mathlib.Core.Path.{_≡_};
+ghost use mathlib.Core.Bool.{true};
 ghost use mathlib.Core.List.{List};
 ghost use Prim.Native.Nat.{ℕ};
 ghost use Rattle.std.specs.Vec.{made};
 ghost use Rattle.std.specs.declared.option.Option.{Option};
-ghost use Rattle.std.specs.shelf.Lists.{All};
 ghost use Rattle.lane.specs.Calls.{Put, Take, Handed};
-ghost use Rattle.lane.specs.Carried.{Carried};
+ghost use Rattle.lane.specs.Carried.{all-carried};
 use refusal::BufferTooShort;
 use refusal::UnsoundFrame;
 
@@ -19,7 +20,8 @@ pub trait Lane {
     // what a take does that hands out nothing or a frame
     ghost takes: { Self → Option (List ℕ) → Self → Type 0 };
 
-    law carried: { (s : Self) → All Carried (waiting s) };
+    // only frames that a lane carries wait in it
+    law carried: { (s : Self) → all-carried (waiting s) ≡ true };
 
     // Adds a frame of 2 to 269 octets at the end; any other is refused.
     fn put(&mut self, frame: &[u8]) -> Result<(), UnsoundFrame>

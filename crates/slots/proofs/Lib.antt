@@ -1,0 +1,3 @@
+pub mod Same
+pub mod Queues
+pub mod Wear

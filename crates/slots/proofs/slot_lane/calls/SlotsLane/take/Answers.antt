@@ -1,0 +1,12 @@
+use Rattle.slots.proofs.Wear.{hands-taken, hands-out, hands-carried}
+use Rattle.slots.proofs.slot_lane.calls.SlotsLane.take.Needs as need
+
+pub ghost-self : need.ghost-self
+ghost-self c = (hands-carried _ _ _ _ (c .hand-out .result) (c .hand-out .ensures) (c .args .self .now .carried), tt)
+
+pub returns : need.returns
+returns c = record {
+  list = (c .if-buffer-lt-MAX-FRAME .left, hands-taken _ _ _ _ (c .hand-out .result) (c .hand-out .ensures));
+  exact = hands-out _ _ _ _ (c .hand-out .result) (c .hand-out .ensures);
+  stays = tt;
+}
