@@ -35,3 +35,7 @@ Handed P (Some n) buf = P (Some (take n buf))
 abbrev pub Passed : {E : Type 0} → List (List ℕ) → List ℕ → List ℕ → Result (Option ℕ) E → List (List ℕ) → List ℕ → Type 0
 Passed old f buf (Ok o) new buf′ = Carried f × Taken (old ++ f ∷ []) buf o new buf′
 Passed old f buf (Err _) new buf′ = (is-carried (length f) ≡ false) × (new ≡ old) × (buf′ ≡ buf)
+
+-- both, as this very lane does them
+abbrev pub Passes : {S : Type 0} → (S → List ℕ → S → Type 0) → (S → Option (List ℕ) → S → Type 0) → S → List ℕ → Option (List ℕ) → S → Type 0
+Passes {S} puts takes s f o s′ = (m : S) × puts s f m × takes m o s′

@@ -1,4 +1,5 @@
-ghost use Rattle.lane.specs.Calls.{Passed};
+ghost use Rattle.std.specs.Vec.{made};
+ghost use Rattle.lane.specs.Calls.{Handed, Passed, Passes};
 use crate::interface::Lane;
 use crate::length::MAX_FRAME;
 use refusal::UnsoundFrame;
@@ -9,7 +10,8 @@ pub fn put_then_take<L: Lane>(
     frame: &[u8],
     buffer: &mut [u8; MAX_FRAME],
 ) -> Result<Option<usize>, UnsoundFrame>
-    ensures { λ r. ⌜ Passed (waiting (now (lane .entry))) (now (frame .entry)) (now (buffer .entry)) r (waiting (now (lane .exit))) (now (buffer .exit)) ⌝ }
+    ensures list { λ r. ⌜ Passed (waiting (now (lane .entry))) (now (frame .entry)) (now (buffer .entry)) r (waiting (now (lane .exit))) (now (buffer .exit)) ⌝ }
+    ensures exact { λ r. ⌜ made r (λ o. Handed (λ h. Passes puts takes (now (lane .entry)) (now (frame .entry)) h (now (lane .exit))) o (now (buffer .exit))) ⌝ }
 {
     lane.put(frame)?;
     match lane.take(buffer) {
