@@ -8,9 +8,9 @@ ghost use Rattle.hdlc.specs.Messages.{control-of, information-of};
 use crate::fault::EncodeFault;
 use crate::frame::Frame;
 
-impl Frame<'_> {
-    fn control(&self) -> u8
-        ensures { λ r. ⌜ r ≡ control-of (message-of (now (self .entry))) ⌝ }
+impl<'a> Frame<'a> {
+    fn control(self) -> u8
+        ensures { λ r. ⌜ r ≡ control-of (message-of (self .entry)) ⌝ }
     {
         match self {
             Frame::Information { number, .. } => 2 * number.value(),
@@ -18,8 +18,8 @@ impl Frame<'_> {
         }
     }
 
-    fn information(&self) -> &[u8]
-        ensures { λ r. ⌜ now r ≡ information-of (message-of (now (self .entry))) ⌝ }
+    fn information(self) -> &'a [u8]
+        ensures { λ r. ⌜ now r ≡ information-of (message-of (self .entry)) ⌝ }
     {
         match self {
             Frame::Information { information, .. } => information,
@@ -29,10 +29,10 @@ impl Frame<'_> {
 
     // Writes the frame at the front of `out` and answers its length.
     // A frame that is refused leaves the buffer as it was.
-    pub fn encode(&self, out: &mut [u8]) -> Result<usize, EncodeFault>
-        ensures answer { λ r. ⌜ r ≡ encoded (message-of (now (self .entry))) (now (out .entry)) ⌝ }
-        ensures buffer { λ _. ⌜ now (out .exit) ≡ encoded-to (message-of (now (self .entry))) (now (out .entry)) ⌝ }
-        ensures decodes_back { λ _. ⌜ Decodes-back (message-of (now (self .entry))) ⌝ }
+    pub fn encode(self, out: &mut [u8]) -> Result<usize, EncodeFault>
+        ensures answer { λ r. ⌜ r ≡ encoded (message-of (self .entry)) (now (out .entry)) ⌝ }
+        ensures buffer { λ _. ⌜ now (out .exit) ≡ encoded-to (message-of (self .entry)) (now (out .entry)) ⌝ }
+        ensures decodes_back { λ _. ⌜ Decodes-back (message-of (self .entry)) ⌝ }
     {
         let information = self.information();
         if information.len() > Frame::MAX_INFORMATION {

@@ -1,3 +1,7 @@
+ghost use mathlib.Core.Path.{_≡_};
+ghost use Rattle.hdlc.specs.Meaning.{message-of};
+ghost use Rattle.hdlc.specs.Messages.{receive-ready};
+ghost use Rattle.hdlc.specs.Numbers.{number-of};
 use crate::number::SequenceNumber;
 
 // A frame by what it says.
@@ -19,4 +23,13 @@ impl Frame<'_> {
     pub(crate) const HEADER: usize = 2;
     // The most information that a frame has.
     pub(crate) const MAX_INFORMATION: usize = 267;
+}
+
+impl Frame<'static> {
+    // The RR frame with this number, which borrows nothing.
+    pub fn receive_ready(number: SequenceNumber) -> Self
+        ensures { λ r. ⌜ message-of r ≡ receive-ready (number-of number) ⌝ }
+    {
+        Frame::ReceiveReady { number }
+    }
 }

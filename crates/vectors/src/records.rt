@@ -1,87 +1,30 @@
-// Cases of records, on values: each answers the line that is printed.
-
-ghost use mathlib.Core.Path.{_≡_};
-ghost use Rattle.std.specs.Of.String.{string-bytes};
-ghost use Rattle.std.specs.Vec.{made};
-ghost use Rattle.ihex.specs.Meaning.{content};
-ghost use Rattle.ihex.specs.Reading.{reading, data-record};
-ghost use Rattle.vectors.specs.Records.{record-words, read-words, data-written, buffer-written, write-words, blank};
-use crate::words::spell;
-use ihex::DataRecord;
-use ihex::Record;
-use ihex::RecordRefusal;
-use refusal::BufferRefusal;
-use refusal::Refusal;
-use std::alloc::AllocError;
+use crate::parsing::buffer;
+use crate::parsing::number;
+use crate::parsing::octets;
 use std::alloc::Global;
+use std::error::AnyError;
 
-// What a buffer is filled with before something is written to it.
-const BLANK: u8 = b'.';
+pub(crate) fn read(heap: Global, rest: &str) -> Result<String, AnyError> {
+    let text = octets(heap, Some(rest))?;
+    Ok(cases::records::read(heap, text.as_slice())?)
+}
 
-fn describe(heap: Global, record: Record) -> Result<String, AllocError>
-    ensures { λ r. ⌜ made r (λ line. string-bytes line ≡ record-words (content «record»)) ⌝ }
-{
-    match record {
-        Record::End => String::from_str(heap, "end"),
-        Record::Data(data) => {
-            let offset = data.offset();
-            let word = spell(heap, data.data())?;
-            let word = word.as_str();
-            format!(heap, "data {offset} {word}")
-        }
+// A text with a byte added until it has a length.
+pub(crate) fn read_padded(heap: Global, rest: &str) -> Result<String, AnyError> {
+    let mut words = rest.split(' ');
+    let mut text = octets(heap, words.next())?;
+    let pad = octets(heap, words.next())?;
+    let length: usize = words.next().ok_or("a length is missing")?.parse()?;
+    for _ in text.len()..length {
+        text.extend_from_slice(pad.as_slice())?;
     }
+    Ok(cases::records::read(heap, text.as_slice())?)
 }
 
-// The record that a text is.
-pub(crate) fn read(heap: Global, text: &[u8]) -> Result<String, AllocError>
-    ensures { λ r. ⌜ made r (λ line. string-bytes line ≡ read-words (reading (now (text .entry)))) ⌝ }
-{
-    match Record::read(text) {
-        Ok(record) => describe(heap, record),
-        Err(fault) => {
-            let number = Refusal::from(fault).number();
-            format!(heap, "refused {number}")
-        }
-    }
-}
-
-// The length that is written of a data record, or the refusal.
-fn write_data(offset: u16, data: &[u8], out: &mut [u8]) -> Result<usize, Refusal>
-    ensures answer { λ r. ⌜ r ≡ data-written (data-record offset (now («data» .entry))) (now (out .entry)) ⌝ }
-    ensures buffer { λ _. ⌜ now (out .exit) ≡ buffer-written (data-record offset (now («data» .entry))) (now (out .entry)) ⌝ }
-{
-    let record = Record::Data(DataRecord::new(offset, data)?);
-    Ok(record.write(out)?)
-}
-
-fn describe_written(
-    heap: Global,
-    answer: Result<usize, Refusal>,
-    out: &[u8],
-) -> Result<String, AllocError>
-    ensures { λ r. ⌜ made r (λ line. string-bytes line ≡ write-words answer (now (out .entry))) ⌝ }
-{
-    let word = spell(heap, out)?;
-    let word = word.as_str();
-    match answer {
-        Ok(n) => format!(heap, "written {n} {word}"),
-        Err(refusal) => {
-            let number = refusal.number();
-            format!(heap, "refused {number} {word}")
-        }
-    }
-}
-
-// A data record written to a buffer of this length.
-pub(crate) fn write(
-    heap: Global,
-    offset: u16,
-    data: &[u8],
-    length: u16,
-) -> Result<String, AllocError>
-    ensures { λ r. ⌜ made r (λ line. string-bytes line ≡ write-words (data-written (data-record offset (now («data» .entry))) (blank length)) (buffer-written (data-record offset (now («data» .entry))) (blank length))) ⌝ }
-{
-    let mut out = vec![in heap; BLANK; length as usize]?;
-    let answer = write_data(offset, data, out.as_mut_slice());
-    describe_written(heap, answer, out.as_slice())
+pub(crate) fn write(heap: Global, rest: &str) -> Result<String, AnyError> {
+    let mut words = rest.split(' ');
+    let offset = number(words.next())?;
+    let data = octets(heap, words.next())?;
+    let mut out = buffer(heap, words.next())?;
+    Ok(cases::records::write(heap, offset, data.as_slice(), out.as_mut_slice())?)
 }

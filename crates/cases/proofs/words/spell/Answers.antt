@@ -10,8 +10,8 @@ use Rattle.std.proofs.shelf.Tests.{true≢false}
 use Rattle.ihex.specs.Digits.{digits}
 use Rattle.ihex.proofs.Characters.{encoded-byte}
 use Rattle.ihex.proofs.Spelling.{digits-append}
-use Rattle.vectors.specs.Words.{word-of}
-use Rattle.vectors.proofs.words.spell.Needs as need
+use Rattle.cases.specs.Words.{word-of}
+use Rattle.cases.proofs.words.spell.Needs as need
 
 -- one byte more
 more : (bs ds w w1 w2 : List ℕ) (i : ℕ) → i < length bs → getD bs i 0 < 256 → ds ≡ digits (getD bs i 0 ∷ []) → w ≡ digits (take i bs)

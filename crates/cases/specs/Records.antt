@@ -2,7 +2,6 @@
 use mathlib.Core.List.{List, _++_}
 use Prim.Native.Nat.{ℕ}
 use lib.Chars.{codes}
-use lib.ListN.{replicate}
 use Rattle.std.specs.Written.{decimal}
 use Rattle.std.specs.declared.result.Result.{Result}
 use Rattle.std.specs.declared.result.Result.the-variants.{Ok, Err}
@@ -14,7 +13,7 @@ use Rattle.ihex.specs.Meaning.{refusal-of}
 use Rattle.ihex.specs.Reading.{data-record}
 use Rattle.ihex.specs.Writing.{written, written-to}
 use Rattle.ihex.specs.declared.fault.RecordFault.{RecordFault}
-use Rattle.vectors.specs.Words.{word-of, refused-word}
+use Rattle.cases.specs.Words.{word-of, refused-word}
 
 abbrev pub record-words : Content → List ℕ
 record-words (data-at offset ds) = codes "data " ++ (decimal offset ++ (codes " " ++ word-of ds))
@@ -38,11 +37,3 @@ data-written (Err f) out = Err (refusal-of f)
 abbrev pub buffer-written : Result Content RecordFault → List ℕ → List ℕ
 buffer-written (Ok r) out = written-to r out
 buffer-written (Err f) out = out
-
-abbrev pub write-words : Result ℕ Refusal → List ℕ → List ℕ
-write-words (Ok n) out = codes "written " ++ (decimal n ++ (codes " " ++ word-of out))
-write-words (Err f) out = refused-word f ++ (codes " " ++ word-of out)
-
--- a buffer before something is written to it
-abbrev pub blank : ℕ → List ℕ
-blank n = replicate n 46
