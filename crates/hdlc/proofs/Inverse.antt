@@ -49,3 +49,7 @@ sound-only (a ∷ c ∷ xs) m fits h =
 pub canonical : (bs : List ℕ) (r : Result Message UnsoundFrame) → getD bs 1 0 < 256 → r ≡ decoding bs → Canonical bs r
 canonical bs (Ok m) fits h = sound-only bs m fits (sym h)
 canonical bs (Err e) fits h = tt
+
+pub decodes-back : (m : Message) → Sound m → decoding (frame m) ≡ Ok m
+decodes-back (information n info) h = grind (arith, tells)
+decodes-back (receive-ready n) h = grind (arith, tells)

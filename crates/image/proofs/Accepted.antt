@@ -39,7 +39,7 @@ close-after (c ∷ cs) rest h =
     cond-false (eqb c 13 && eqb (getD (cs ++ 13 ∷ 10 ∷ rest) 0 0) 10) _ _ (and-left _ _ (ne-eqb c 13 (no-cr c (p .0))))
     ∙ ap (mapped suc) (close-after cs rest (p .1))
 
-line-short : (r : Content) → Sound r → length (line r) ≤ 267
+pub line-short : (r : Content) → Sound r → length (line r) ≤ 267
 line-short (data-at offset ds) h = omega (arith, line-length (data-at offset ds), h .2)
 line-short end-of-file h = omega (arith, line-length end-of-file)
 

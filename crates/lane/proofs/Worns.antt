@@ -1,5 +1,5 @@
 -- the laws of worn copies
-use mathlib.Core.Path.{_≡_, refl}
+use mathlib.Core.Path.{_≡_, refl, subst}
 use mathlib.Core.List.{List, [], _∷_, _++_}
 use Rattle.std.specs.shelf.Lists.{All}
 use Rattle.lane.specs.Worn.{Worn, done, skip, copy}
@@ -38,3 +38,7 @@ pub worn-all : {X : Type 0} (P : X → Type 0) {xs ys : List X} → Worn xs ys �
 worn-all P done a = tt
 worn-all P (skip w) a = worn-all P w (a .1)
 worn-all P (copy w) a = (a .0, worn-all P w a)
+
+-- the same of equal lists
+pub worn-along : {X : Type 0} {xs xs′ ys ys′ : List X} → xs ≡ xs′ → ys ≡ ys′ → Worn xs ys → Worn xs′ ys′
+worn-along {xs′} {ys} e f w = subst (Worn xs′) f (subst (λ zs. Worn zs ys) e w)
