@@ -1,2 +1,3 @@
 pub mod Tallies
 pub mod Sending
+pub mod Layers

@@ -2,6 +2,10 @@
 
 mod sending;
 mod traffic;
+mod trials;
 
 pub use sending::transmit;
 pub use traffic::Traffic;
+pub use trials::over_losing;
+pub use trials::over_slots;
+pub use trials::over_two;
