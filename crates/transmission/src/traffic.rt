@@ -1,6 +1,9 @@
 ghost use mathlib.Core.Path.{_≡_};
 ghost use Prim.Native.Nat.{_+_, _<_, _^_};
+ghost use Rattle.std.specs.declared.option.Option.the-variants.{Some};
+ghost use Rattle.transmission.specs.Prints.{traffic-text};
 ghost use Rattle.transmission.specs.Tallies.{no-traffic, counted};
+use std::fmt;
 
 // What a lane was given, and what came of it.
 #[derive(Clone, Copy, PartialEq, Eq, Debug)]
@@ -35,5 +38,14 @@ impl Traffic {
         } else {
             self.lost += 1;
         }
+    }
+}
+
+pub impl fmt::Display for Traffic as TrafficDisplay {
+    ghost shown = { λ t. Some (traffic-text t) };
+
+    fn fmt<W: fmt::Write>(&self, f: &mut fmt::Formatter<W>) -> fmt::Result {
+        let Traffic { put, taken, lost } = *self;
+        write!(f, "{put} put, {taken} taken, {lost} lost")
     }
 }
