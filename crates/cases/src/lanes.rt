@@ -39,7 +39,11 @@ pub fn put<L: Lane>(heap: Global, lane: &mut L, frame: &[u8]) -> Result<String, 
 fn front(octets: &[u8], n: usize) -> &[u8]
     ensures { λ r. ⌜ now r ≡ take n (now (octets .entry)) ⌝ }
 {
-    if n < octets.len() { &octets[0..n] } else { octets }
+    if n < octets.len() {
+        &octets[0..n]
+    } else {
+        octets
+    }
 }
 
 fn describe_take(

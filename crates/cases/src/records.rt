@@ -54,12 +54,7 @@ fn write_data(offset: u16, data: &[u8], out: &mut [u8]) -> Result<usize, Refusal
 }
 
 // A data record written to a buffer.
-pub fn write(
-    heap: Global,
-    offset: u16,
-    data: &[u8],
-    out: &mut [u8],
-) -> Result<String, AllocError>
+pub fn write(heap: Global, offset: u16, data: &[u8], out: &mut [u8]) -> Result<String, AllocError>
     ensures { λ r. ⌜ made r (λ line. string-bytes line ≡ write-words (data-written (data-record offset (now («data» .entry))) (now (out .entry))) (buffer-written (data-record offset (now («data» .entry))) (now (out .entry)))) ⌝ }
 {
     let answer = write_data(offset, data, out);

@@ -55,3 +55,63 @@ mod tests {
         check_eq(page.as_str(), "refused,1,17")
     }
 }
+
+// Frames over lanes.
+#[cfg(test)]
+mod lane_tests {
+    use hdlc::Frame;
+    use hdlc::SequenceNumber;
+    use lane::Lane;
+    use lane::Losing;
+    use lane::LosingLane;
+    use lane::MAX_FRAME;
+    use refusal::BufferTooShortDebug;
+    use refusal::UnsoundFrameDebug;
+    use slots::SlotLane;
+    use slots::SlotsLane;
+    use std::test::*;
+
+    fn put_ready<L: Lane>(lane: &mut L, n: u8) -> Result<(), Fail> {
+        let mut buffer = [0; MAX_FRAME];
+        let frame = Frame::receive_ready(SequenceNumber::modulo(n));
+        check(frame.encode(&mut buffer).is_ok())?;
+        Ok(lane.put(&buffer[0..2])?)
+    }
+
+    // The number of the RR frame that comes next.
+    fn take_ready<L: Lane>(lane: &mut L) -> Result<Option<u8>, Fail> {
+        let mut buffer = [0; MAX_FRAME];
+        let Some(n) = lane.take(&mut buffer)? else {
+            return Ok(None);
+        };
+        check(n <= MAX_FRAME)?;
+        match Frame::decode(&buffer[0..n])? {
+            Frame::ReceiveReady { number } => Ok(Some(number.value())),
+            Frame::Information { .. } => Err(Fail::new("no RR frame")),
+        }
+    }
+
+    #[test]
+    fn the_third_put_is_dropped() -> Result<(), Fail> {
+        let mut lane = Losing::new(SlotLane::new(), 3);
+        for n in 0..4 {
+            put_ready(&mut lane, n)?;
+        }
+        check_eq(take_ready(&mut lane)?, Some(0))?;
+        check_eq(take_ready(&mut lane)?, Some(1))?;
+        check_eq(take_ready(&mut lane)?, Some(3))?;
+        check_eq(take_ready(&mut lane)?, None)
+    }
+
+    #[test]
+    fn a_ninth_frame_is_lost() -> Result<(), Fail> {
+        let mut lane = SlotLane::new();
+        for n in 0..9 {
+            put_ready(&mut lane, n)?;
+        }
+        for n in 0..8 {
+            check_eq(take_ready(&mut lane)?, Some(n))?;
+        }
+        check_eq(take_ready(&mut lane)?, None)
+    }
+}

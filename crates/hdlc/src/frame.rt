@@ -13,7 +13,9 @@ pub enum Frame<'a> {
         information: &'a [u8],
     },
     // an RR frame: the number N(R) of the I frame that is awaited next
-    ReceiveReady { number: SequenceNumber },
+    ReceiveReady {
+        number: SequenceNumber,
+    },
 }
 
 impl Frame<'_> {

@@ -1,4 +1,5 @@
 ghost use mathlib.Core.Path.{_≡_};
+ghost use lib.Dec.{leb};
 ghost use Rattle.lane.specs.Carried.{is-carried};
 
 // The fewest and the most octets of a frame that a lane carries.
@@ -11,4 +12,11 @@ pub fn carries(length: usize) -> bool
     ensures { λ r. ⌜ r ≡ is-carried length ⌝ }
 {
     MIN_FRAME <= length && length <= MAX_FRAME
+}
+
+// Whether a buffer of this length holds every frame that a lane carries.
+pub fn holds_frames(length: usize) -> bool
+    ensures { λ r. ⌜ r ≡ leb 269 length ⌝ }
+{
+    length >= MAX_FRAME
 }

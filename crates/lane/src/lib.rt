@@ -8,6 +8,7 @@ mod passing;
 pub use interface::Lane;
 pub use length::MAX_FRAME;
 pub use length::carries;
+pub use length::holds_frames;
 pub use losing::Losing;
 pub use losing::layer::LosingLane;
 pub use passing::put_then_take;

@@ -9,7 +9,7 @@ use lib.Dec.{ltb}
 use lib.ListN.{length, getD, set}
 use Rattle.std.proofs.shelf.Lists.{getD-set-same, getD-set-other}
 use Rattle.std.proofs.shelf.Tests.{cond-true, cond-false, lt-ltb, le-ltb}
-use Rattle.slots.specs.Tables.{View, from-place, waits, filled, advanced, queued, Stores}
+use Rattle.slots.specs.Tables.{View, from-place, waits, next-place, filled, advanced, queued, Stores}
 
 length-from : (fs : List (List ℕ)) (h n : ℕ) → length (from-place fs h n) ≡ n
 unfolding from-place
@@ -44,19 +44,18 @@ pub waits-none : (v : View) → v .count ≡ 0 → waits v ≡ []
 unfolding from-place
 waits-none v e = ap (from-place (v .places) (v .head)) e
 
-waits-filled : (v : View) (f : List ℕ) → length (v .places) ≡ 8 → v .count < 8 → waits (filled f v) ≡ waits v ++ f ∷ []
-waits-filled v f e l =
-    let i : ℕ = (v .head + v .count) % 8 in
+waits-filled : (v : View) (f : List ℕ) → next-place v < length (v .places) → v .count < 8 → waits (filled f v) ≡ waits v ++ f ∷ []
+waits-filled v f within l =
+    let i : ℕ = next-place v in
     let fs : List (List ℕ) = set (v .places) i f in
-    let within : i < length (v .places) = omega arith in
     ap (from-place fs (v .head)) (add-one (v .count)) ∙ from-last fs (v .head) (v .count)
     ∙ ap₂ (λ xs x. xs ++ x ∷ []) (from-other (v .places) (v .head) (v .count) i f (λ k m. omega arith)) (getD-set-same (v .places) i f [] within)
 
 -- a frame where there is room, and where there is none
-pub stores-filled : (v v′ : View) (f : List ℕ) → length (v .places) ≡ 8 → v .count < 8 → v′ ≡ filled f v → Stores v f v′
-stores-filled v v′ f e l h = record {
+pub stores-filled : (v v′ : View) (f : List ℕ) → next-place v < length (v .places) → v .count < 8 → v′ ≡ filled f v → Stores v f v′
+stores-filled v v′ f within l h = record {
   table = h ∙ sym (cond-true (ltb (v .count) 8) _ _ (lt-ltb (v .count) 8 l));
-  queue = ap waits h ∙ waits-filled v f e l ∙ sym (cond-true (ltb (length (waits v)) 8) _ _ (lt-ltb _ 8 (omega (arith, length-from (v .places) (v .head) (v .count)))));
+  queue = ap waits h ∙ waits-filled v f within l ∙ sym (cond-true (ltb (length (waits v)) 8) _ _ (lt-ltb _ 8 (omega (arith, length-from (v .places) (v .head) (v .count)))));
 }
 
 pub stores-lost : (v : View) (f : List ℕ) → 8 ≤ v .count → Stores v f v

@@ -35,9 +35,13 @@ waits v = from-place (v .places) (v .head) (v .count)
 abbrev pub blank : View
 blank = record { places = replicate 8 []; head = 0; count = 0 }
 
--- the next place is filled, and no other changes
+-- the place after the youngest
+abbrev pub next-place : View → ℕ
+next-place v = (v .head + v .count) % 8
+
+-- it is filled, and no other place changes
 abbrev pub filled : List ℕ → View → View
-filled f v = record { places = set (v .places) ((v .head + v .count) % 8) f; head = v .head; count = v .count + 1 }
+filled f v = record { places = set (v .places) (next-place v) f; head = v .head; count = v .count + 1 }
 
 -- the oldest leaves, and no place changes
 abbrev pub advanced : View → View

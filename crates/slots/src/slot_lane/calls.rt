@@ -7,8 +7,8 @@ ghost use Rattle.slots.specs.Tables.{blank};
 use crate::slot_lane::SlotLane;
 use crate::table::Table;
 use lane::Lane;
-use lane::MAX_FRAME;
 use lane::carries;
+use lane::holds_frames;
 use refusal::BufferTooShort;
 use refusal::UnsoundFrame;
 
@@ -48,7 +48,7 @@ pub impl Lane for SlotLane as SlotsLane {
         ensures exact { λ r. ⌜ made r (λ o. Handed (λ h. Slot-takes (now (self .entry)) h (now (self .exit))) o (now (buffer .exit))) ⌝ }
         ensures stays { λ r. ⌜ refused r (λ _. now (self .exit) ≡ now (self .entry)) ⌝ }
     {
-        if buffer.len() < MAX_FRAME {
+        if !holds_frames(buffer.len()) {
             return Err(BufferTooShort);
         }
         Ok(self.table.hand_out(buffer))

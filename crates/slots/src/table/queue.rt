@@ -1,5 +1,6 @@
 ghost use mathlib.Core.Path.{_≡_};
 ghost use Prim.Native.Nat.{_≤_};
+ghost use lib.Dec.{ltb};
 ghost use lib.ListN.{length};
 ghost use Rattle.slots.specs.Tables.{view, blank, Stores, Writes-out};
 use crate::place::Place;
@@ -17,12 +18,18 @@ impl<const LONGEST: usize> Table<LONGEST> {
         }
     }
 
+    fn has_room(&self) -> bool
+        ensures { λ r. ⌜ r ≡ ltb (now (self .entry) .count) 8 ⌝ }
+    {
+        self.count < PLACES
+    }
+
     // Adds a frame, or loses it where all places are taken.
     pub(crate) fn store(&mut self, frame: &[u8])
         requires { ⌜ length (now frame) ≤ LONGEST ⌝ }
         ensures { λ _. ⌜ Stores (view (now (self .entry))) (now (frame .entry)) (view (now (self .exit))) ⌝ }
     {
-        if self.count < PLACES {
+        if self.has_room() {
             let next = (self.head + self.count) % PLACES;
             self.place(next).fill(frame);
             self.count += 1;

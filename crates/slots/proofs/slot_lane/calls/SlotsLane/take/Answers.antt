@@ -1,3 +1,5 @@
+use mathlib.Core.Path.{sym}
+use Rattle.std.proofs.shelf.Tests.{leb-true}
 use Rattle.slots.proofs.Wear.{hands-taken, hands-out, hands-carried}
 use Rattle.slots.proofs.slot_lane.calls.SlotsLane.take.Needs as need
 
@@ -6,7 +8,7 @@ ghost-self c = (hands-carried _ _ _ _ (c .hand-out .result) (c .hand-out .ensure
 
 pub returns : need.returns
 returns c = record {
-  list = (c .if-buffer-lt-MAX-FRAME .left, hands-taken _ _ _ _ (c .hand-out .result) (c .hand-out .ensures));
+  list = (leb-true 269 _ (sym (c .if-not-holds-frames .ensures tt)), hands-taken _ _ _ _ (c .hand-out .result) (c .hand-out .ensures));
   exact = hands-out _ _ _ _ (c .hand-out .result) (c .hand-out .ensures);
   stays = tt;
 }
