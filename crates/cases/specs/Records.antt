@@ -10,7 +10,6 @@ use Rattle.refusal.specs.declared.Refusal.{Refusal}
 use Rattle.refusal.specs.declared.Refusal.the-variants as reason
 use Rattle.ihex.specs.Content.{Content, data-at, end-of-file}
 use Rattle.ihex.specs.Meaning.{refusal-of}
-use Rattle.ihex.specs.Reading.{data-record}
 use Rattle.ihex.specs.Writing.{written, written-to}
 use Rattle.ihex.specs.declared.fault.RecordFault.{RecordFault}
 use Rattle.cases.specs.Words.{word-of, refused-word}

@@ -33,7 +33,7 @@ impl<'a> Frame<'a> {
             return Err(UnsoundFrame);
         }
         let control = octets[1];
-        let information = &octets[2..];
+        let information = &octets[Frame::HEADER..];
         if is_information(control, information.len()) {
             let number = SequenceNumber::modulo(control / 2);
             return Ok(Frame::Information {

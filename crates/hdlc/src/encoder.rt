@@ -44,7 +44,7 @@ impl<'a> Frame<'a> {
         }
         out[0] = Frame::ADDRESS;
         out[1] = self.control();
-        let rest = &mut out[2..length];
+        let rest = &mut out[Frame::HEADER..length];
         rest.copy_from_slice(information);
         Ok(length)
     }

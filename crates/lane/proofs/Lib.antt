@@ -1,3 +1,5 @@
 pub mod Worns
+pub mod Taking
+pub mod Runs
 pub mod Carrying
 pub mod Drops

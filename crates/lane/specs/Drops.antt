@@ -34,6 +34,6 @@ abbrev pub counted-after : ℕ → ℕ → ℕ
 counted-after k zero = 0
 counted-after k (suc m) = counted k (counted-after k m)
 
--- from the beginning on, the m-th accepted put is dropped exactly when k divides m
+-- from the beginning on: after m accepted puts the next is dropped exactly when k divides its number, m + 1
 abbrev pub Every-kth : ℕ → Type 0
 Every-kth k = (m : ℕ) → dropped k (counted-after k m) ≡ not (eqb k 0) && eqb (suc m % k) 0

@@ -1,4 +1,5 @@
 pub mod Worn
 pub mod Carried
 pub mod Calls
+pub mod Runs
 pub mod Drops

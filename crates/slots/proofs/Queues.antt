@@ -9,7 +9,7 @@ use lib.Dec.{ltb}
 use lib.ListN.{length, getD, set}
 use Rattle.std.proofs.shelf.Lists.{getD-set-same, getD-set-other}
 use Rattle.std.proofs.shelf.Tests.{cond-true, cond-false, lt-ltb, le-ltb}
-use Rattle.slots.specs.Tables.{View, from-place, waits, next-place, filled, advanced, queued, Stores}
+use Rattle.slots.specs.Tables.{View, from-place, waits, next-place, filled, advanced, Stores}
 
 length-from : (fs : List (List ℕ)) (h n : ℕ) → length (from-place fs h n) ≡ n
 unfolding from-place

@@ -4,9 +4,8 @@ use mathlib.Core.Bool.{true}
 use mathlib.Core.List.{List, [], _∷_, _++_}
 use Prim.Native.Nat.{ℕ}
 use lib.Dec.{ltb}
-use lib.ListN.{length, take, drop}
+use lib.ListN.{length}
 use Rattle.std.proofs.shelf.Elements.{all-push}
-use Rattle.std.proofs.shelf.Lists.{take-at}
 use Rattle.std.proofs.shelf.Tests.{and-parts, cond-both}
 use Rattle.std.specs.declared.option.Option.{Option}
 use Rattle.std.specs.declared.option.Option.the-variants.{Some, None}
@@ -14,8 +13,9 @@ use Rattle.lane.specs.Calls.{Taken, Handed}
 use Rattle.lane.specs.Carried.{Carried, all-carried}
 use Rattle.lane.specs.Worn.{Worn}
 use Rattle.lane.proofs.Carrying.{each-carried, carried-each}
+use Rattle.lane.proofs.Taking.{taken-front}
 use Rattle.lane.proofs.Worns.{worn-same, worn-lost}
-use Rattle.slots.specs.Tables.{View, waits, queued, Stores, Hands-out, Writes-out}
+use Rattle.slots.specs.Tables.{View, waits, Stores, Hands-out, Writes-out}
 
 module _ (v : View) (f : List ℕ) (v′ : View) (s : Stores v f v′) where
   fs : List (List ℕ)
@@ -41,7 +41,7 @@ module _ (v : View) (buf : List ℕ) (v′ : View) (buf′ : List ℕ) where
   pub hands-out : (o : Option ℕ) → Writes-out v buf o v′ buf′ → Handed (λ x. Hands-out v x v′) o buf′
   hands-out None (h, same) = h
   hands-out (Some n) (f, long, h, front) =
-      subst (λ x. Hands-out v (Some x) v′) (sym (ap (take n) front ∙ take-at f (drop n buf) n (sym long))) h
+      subst (λ x. Hands-out v (Some x) v′) (sym (taken-front f buf buf′ n long front)) h
 
   pub hands-carried : (o : Option ℕ) → Writes-out v buf o v′ buf′ → all-carried (waits v) ≡ true → all-carried (waits v′) ≡ true
   hands-carried None ((e, h), same) a = ap (λ w. all-carried (waits w)) h ∙ a

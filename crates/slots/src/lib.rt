@@ -1,6 +1,5 @@
 // The slot lane: a lane whose frames wait in a table of eight places.
 
-mod lending;
 mod place;
 mod slot_lane;
 mod table;

@@ -1,19 +1,20 @@
 ghost use Prim.Native.Nat.{_<_, _≤_};
 use crate::place::Place;
 
+mod lending;
 mod queue;
 
 // The places of a table.
-pub(crate) const PLACES: usize = 8;
+const PLACES: usize = 8;
 
 // A table of eight places, in which frames wait in the order of their coming, around its end.
 #[derive(Drop)]
 pub(crate) struct Table<const LONGEST: usize> {
-    pub(crate) places: [Place<LONGEST>; PLACES],
+    places: [Place<LONGEST>; PLACES],
     // the place of the oldest frame that waits
-    pub(crate) head: usize,
+    head: usize,
     // how many wait
-    pub(crate) count: usize,
+    count: usize,
     ghost at: { head < 8 },
     ghost few: { count ≤ 8 },
 }

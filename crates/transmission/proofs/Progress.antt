@@ -7,7 +7,6 @@ use native.Mathlib.Omega.{arith}
 use lib.ListN.{length, take, drop}
 use Rattle.std.proofs.shelf.Elements.{all-push}
 use Rattle.std.proofs.shelf.Lists.{append-assoc, length-append, length-push, take-at}
-use Rattle.std.specs.Options.{isSome}
 use Rattle.std.specs.declared.option.Option.{Option}
 use Rattle.std.specs.declared.option.Option.the-variants.{Some, None}
 use Rattle.std.specs.shelf.Lists.{All}
@@ -83,7 +82,7 @@ module _ {S : Type 0} (waiting : S → List (List ℕ)) (puts : S → List ℕ �
             (subst (λ fs. Sent waiting puts takes s fs (counted t came) s′) frames (sent-push waiting puts takes s m s′ (numbered 0 rs) f t came (a .sent) sent));
       }
 
-  length-sends : {s s′ : S} {fs : List (List ℕ)} {os : List (Option (List ℕ))} → Sends waiting puts takes s fs os s′ → length os ≡ length fs
+  length-sends : {s s′ : S} {fs : List (List ℕ)} {os : List (Option (List ℕ))} → Sends puts takes s fs os s′ → length os ≡ length fs
   length-sends none = refl
   length-sends (one p h) = ap suc (length-sends h)
 

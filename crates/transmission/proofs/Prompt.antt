@@ -81,7 +81,7 @@ module _ {S : Type 0} (puts : S → List ℕ → S → Type 0) (takes : S → Op
 
 -- frame by frame
 module _ {S : Type 0} (waiting : S → List (List ℕ)) (puts : S → List ℕ → S → Type 0) (takes : S → Option (List ℕ) → S → Type 0) (Like : S → List Layer → Type 0) (lane : Prompt puts takes Like) where
-  sends-outcomes : {s s′ : S} {fs : List (List ℕ)} {os : List (Option (List ℕ))} (ls : List Layer) → Like s ls → Sends waiting puts takes s fs os s′ → os ≡ outcomes ls fs
+  sends-outcomes : {s s′ : S} {fs : List (List ℕ)} {os : List (Option (List ℕ))} (ls : List Layer) → Like s ls → Sends puts takes s fs os s′ → os ≡ outcomes ls fs
   sends-outcomes ls h none = refl
   sends-outcomes ls h (one (m, p, t) r) =
       let i = lane .busy _ m _ ls _ _ h p t in

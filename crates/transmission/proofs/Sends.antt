@@ -3,17 +3,18 @@ use mathlib.Core.Path.{_≡_, refl, sym, ap, ap₂, _∙_, subst}
 use mathlib.Core.Bool.{Bool}
 use mathlib.Core.List.{List, [], _∷_, _++_}
 use Prim.Native.Nat.{ℕ}
-use lib.ListN.{length, take, drop}
-use Rattle.std.proofs.shelf.Lists.{take-at, append-assoc, append-nil, joined-more}
+use lib.ListN.{take}
+use Rattle.std.proofs.shelf.Lists.{append-assoc, append-nil, joined-more}
 use Rattle.std.specs.Options.{isSome}
 use Rattle.std.specs.Vec.{listOf}
 use Rattle.std.specs.declared.option.Option.{Option}
 use Rattle.std.specs.declared.option.Option.the-variants.{Some, None}
 use Rattle.lane.specs.Calls.{Handed, Taken, Passes}
 use Rattle.lane.specs.Worn.{Worn}
+use Rattle.lane.proofs.Taking.{taken-front}
 use Rattle.lane.proofs.Worns.{worn-same, worn-trans, worn-append, worn-along}
 use Rattle.transmission.specs.Sending.{Sends, none, one, Sent, Sent-one, received}
-use Rattle.transmission.specs.Tallies.{counted, tally, tally-from, no-traffic}
+use Rattle.transmission.specs.Tallies.{counted, tally-from, no-traffic}
 use Rattle.transmission.specs.declared.traffic.Traffic.{Traffic}
 
 tally-push : (t : Traffic) (os : List (Option (List ℕ))) (o : Option (List ℕ)) → tally-from t (os ++ o ∷ []) ≡ counted (tally-from t os) (isSome o)
@@ -25,14 +26,14 @@ module _ {S : Type 0} (waiting : S → List (List ℕ)) (puts : S → List ℕ �
       → Handed (λ h. Passes puts takes s f h s′) o buf′ → Sent-one waiting puts takes s f came s′
   sent-one s s′ f buf buf′ None came e (w, same) h = record { outcome = None; tells = e; passes = h; worn = w }
   sent-one s s′ f buf buf′ (Some n) came e (x, long, w, front) h =
-      let handed : x ≡ take n buf′ = sym (ap (take n) front ∙ take-at x (drop n buf) n (sym long)) in
+      let handed : x ≡ take n buf′ = sym (taken-front x buf buf′ n long front) in
       record { outcome = Some (take n buf′); tells = e; passes = h; worn = subst (λ y. Worn (waiting s ++ f ∷ []) (y ∷ waiting s′)) handed w }
 
   pub sent-none : (s : S) → Sent waiting puts takes s [] no-traffic s
   sent-none s = record { outcomes = []; sends = none; worn = worn-along (sym (append-nil (waiting s))) refl (worn-same (waiting s)); tallied = refl }
 
   sends-push : {s m s′ : S} {f : List ℕ} {fs : List (List ℕ)} {o : Option (List ℕ)} {os : List (Option (List ℕ))}
-      → Sends waiting puts takes s fs os m → Passes puts takes m f o s′ → Sends waiting puts takes s (fs ++ f ∷ []) (os ++ o ∷ []) s′
+      → Sends puts takes s fs os m → Passes puts takes m f o s′ → Sends puts takes s (fs ++ f ∷ []) (os ++ o ∷ []) s′
   sends-push none p = one p none
   sends-push (one q h) p = one q (sends-push h p)
 

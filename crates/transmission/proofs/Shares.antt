@@ -3,17 +3,16 @@ use mathlib.Core.Path.{_≡_, refl, sym, ap, ap₂, _∙_}
 use mathlib.Core.Bool.{Bool, true, false, cond, _||_, not, _&&_}
 use mathlib.Core.Logic.{⊎-elim}
 use mathlib.Core.List.{List, [], _∷_}
-use Prim.Native.Nat.{ℕ, zero, suc, _+_, _/_, _%_, _≤_, _<_}
+use Prim.Native.Nat.{ℕ, zero, suc, _+_, _/_, _%_, _<_}
 use native.Mathlib.Nat.{add-div-left, div-eq-of-lt, mod-self, mod-eq-of-lt}
 use native.Mathlib.Omega.{arith}
 use lib.Dec.{eqb}
 use lib.ListN.{length}
-use Rattle.std.proofs.shelf.Tests.{cases-eq, cond-false, eq-eqb, ne-eqb}
-use Rattle.std.specs.Options.{isSome}
+use Rattle.std.proofs.shelf.Tests.{cases-eq, cond-false, ne-eqb}
 use Rattle.std.specs.declared.option.Option.{Option}
 use Rattle.std.specs.declared.option.Option.the-variants.{Some, None}
 use Rattle.lane.specs.Drops.{counted, dropped}
-use Rattle.transmission.specs.Layers.{Layer, fresh, outcomes, kth-of}
+use Rattle.transmission.specs.Layers.{fresh, outcomes, kth-of}
 use Rattle.transmission.specs.Tallies.{tally, tally-from, no-traffic}
 use Rattle.transmission.specs.Tallies
 use Rattle.transmission.specs.declared.traffic.Traffic.{Traffic}

@@ -26,12 +26,13 @@ numbered n (r ∷ rs) = frame (information n (line r)) ∷ numbered (next-number
 abbrev pub received : List (Option (List ℕ)) → List (List ℕ)
 received os = joined listOf os
 
-module _ {S : Type 0} (waiting : S → List (List ℕ)) (puts : S → List ℕ → S → Type 0) (takes : S → Option (List ℕ) → S → Type 0) where
-  -- each frame is put, and then one is taken if it comes
-  pub data Sends : S → List (List ℕ) → List (Option (List ℕ)) → S → Type 0 where
-    none : {s : S} → Sends s [] [] s
-    one : {s m s′ : S} {f : List ℕ} {fs : List (List ℕ)} {o : Option (List ℕ)} {os : List (Option (List ℕ))} → Passes puts takes s f o m → Sends m fs os s′ → Sends s (f ∷ fs) (o ∷ os) s′
+-- each frame is put, and then one is taken if it comes, as this very lane does it
+pub data Sends {S : Type 0} (puts : S → List ℕ → S → Type 0) (takes : S → Option (List ℕ) → S → Type 0) : S → List (List ℕ) → List (Option (List ℕ)) → S → Type 0 where
+  none : {s : S} → Sends puts takes s [] [] s
+  one : {s m s′ : S} {f : List ℕ} {fs : List (List ℕ)} {o : Option (List ℕ)} {os : List (Option (List ℕ))} → Passes puts takes s f o m → Sends puts takes m fs os s′ → Sends puts takes s (f ∷ fs) (o ∷ os) s′
 
+module _ {S : Type 0} (waiting : S → List (List ℕ)) (puts : S → List ℕ → S → Type 0) (takes : S → Option (List ℕ) → S → Type 0) where
+  -- one frame, and whether one came
   pub record Sent-one (s : S) (f : List ℕ) (came : Bool) (s′ : S) : Type 0 where
     pub outcome : Option (List ℕ)
     pub tells : came ≡ isSome outcome
@@ -41,7 +42,7 @@ module _ {S : Type 0} (waiting : S → List (List ℕ)) (puts : S → List ℕ �
   -- what came, followed by what still waits, is a worn copy of what waited, followed by what was put
   pub record Sent (s : S) (fs : List (List ℕ)) (t : Traffic) (s′ : S) : Type 0 where
     pub outcomes : List (Option (List ℕ))
-    pub sends : Sends s fs outcomes s′
+    pub sends : Sends puts takes s fs outcomes s′
     pub worn : Worn (waiting s ++ fs) (received outcomes ++ waiting s′)
     pub tallied : t ≡ tally outcomes
 

@@ -1,4 +1,3 @@
-use borrow.Author.Needs.{needs}
 use mathlib.Core.Path.{refl}
 use Rattle.figures.proofs.Copies.{lost-and-repeated, never-reordered, never-made-up}
 use Rattle.figures.proofs.worked_examples.Needs as need

@@ -1,22 +1,20 @@
+use borrow.Author.Needs.{needs}
 use mathlib.Core.List.{List}
 use Prim.Native.Nat.{ℕ}
 use Rattle.std.specs.declared.option.Option.{Option}
 use Rattle.std.specs.declared.option.Option.the-variants.{Some, None}
-use Rattle.lane.specs.Calls.{Handed, Taken, Passes}
-use Rattle.lane.specs.Worn.{Worn}
-use Rattle.lane.proofs.Worns.{worn-trans}
+use Rattle.lane.specs.Calls.{Handed, Passes}
+use Rattle.lane.proofs.Runs.{runs-wear}
+use Rattle.lane.proofs.Taking.{taken-from}
 use Rattle.lane.proofs.passing.put_then_take.Needs as need
-
--- a take from a worn copy is one from the list
-taken-from : (xs old : List (List ℕ)) (buf : List ℕ) (o : Option ℕ) (new : List (List ℕ)) (buf′ : List ℕ)
-    → Worn xs old → Taken old buf o new buf′ → Taken xs buf o new buf′
-taken-from xs old buf None new buf′ w (v, e) = (worn-trans w v, e)
-taken-from xs old buf (Some n) new buf′ w (f, l, v, e) = (f, l, worn-trans w v, e)
 
 passes : {S : Type 0} (puts : S → List ℕ → S → Type 0) (takes : S → Option (List ℕ) → S → Type 0) (s m s′ : S) (f : List ℕ) (o : Option ℕ) (buf : List ℕ)
     → puts s f m → Handed (λ h. takes m h s′) o buf → Handed (λ h. Passes puts takes s f h s′) o buf
 passes puts takes s m s′ f None buf p t = (m, p, t)
 passes puts takes s m s′ f (Some n) buf p t = (m, p, t)
+
+pub returns-in-Break-put : need.returns-in-Break-put
+returns-in-Break-put g c = record { list = search needs; exact = search needs; runs = runs-wear }
 
 pub returns : need.returns
 returns g c =
@@ -26,4 +24,5 @@ returns g c =
     record {
       list = (put .list .0, taken-from _ _ _ taken _ _ (put .list .1) (take .list .1));
       exact = passes (g .L·Lane .puts) (g .L·Lane .takes) _ _ _ _ taken _ (put .exact) (take .exact);
+      runs = runs-wear;
     }

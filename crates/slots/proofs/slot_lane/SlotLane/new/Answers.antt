@@ -1,4 +1,4 @@
-use mathlib.Core.Path.{_≡_, refl, ap, _∙_}
+use mathlib.Core.Path.{ap}
 use Rattle.lane.specs.Carried.{all-carried}
 use Rattle.slots.specs.Tables.{waits, from-place}
 use Rattle.slots.proofs.slot_lane.SlotLane.new.Needs as need

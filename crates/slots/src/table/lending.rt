@@ -1,4 +1,3 @@
-ghost use mathlib.Core.Path.{_≡_};
 ghost use Prim.Native.Nat.{_<_};
 ghost use lib.ListN.{set};
 ghost use ghost.Atoms.{sem};
@@ -11,7 +10,7 @@ use crate::table::Table;
 
 impl<const LONGEST: usize> Table<LONGEST> {
     // One place, lent for writing; every other place, and which of them wait, stay.
-    pub(crate) fn place(&mut self, i: usize) -> &mut Place<LONGEST>
+    pub(super) fn place(&mut self, i: usize) -> &mut Place<LONGEST>
         requires { ⌜ i < 8 ⌝ }
         ensures { λ r. sem 𝓤 H A (follows (the-row LONGEST·row) (place-row LONGEST·row) (name (self .entry)) (name r) (λ w. record { places = set (now (self .entry) .places) i w; head = now (self .entry) .head; count = now (self .entry) .count; at = now (self .entry) .at; few = now (self .entry) .few })) }
     {
