@@ -1,11 +1,20 @@
 ghost use mathlib.Core.Path.{_≡_};
-ghost use Prim.Native.Nat.{_≤_};
+ghost use Prim.Native.Nat.{_+_, _%_, _<_, _≤_};
 ghost use lib.Dec.{ltb};
 ghost use lib.ListN.{length};
 ghost use Rattle.slots.specs.Tables.{view, blank, Stores, Writes-out};
 use crate::place::Place;
 use crate::table::PLACES;
 use crate::table::Table;
+
+// The place that is n places after this one, around the table's end.
+fn place_after(place: usize, n: usize) -> usize
+    requires { ⌜ place < 8 ⌝ ∗ ⌜ n ≤ 8 ⌝ }
+    ensures place { λ r. ⌜ r ≡ (place + n) % 8 ⌝ }
+    ensures within { λ r. ⌜ r < 8 ⌝ }
+{
+    (place + n) % PLACES
+}
 
 impl<const LONGEST: usize> Table<LONGEST> {
     pub(crate) fn new() -> Self
@@ -30,7 +39,7 @@ impl<const LONGEST: usize> Table<LONGEST> {
         ensures { λ _. ⌜ Stores (view (now (self .entry))) (now (frame .entry)) (view (now (self .exit))) ⌝ }
     {
         if self.has_room() {
-            let next = (self.head + self.count) % PLACES;
+            let next = place_after(self.head, self.count);
             self.place(next).fill(frame);
             self.count += 1;
         }
@@ -45,7 +54,7 @@ impl<const LONGEST: usize> Table<LONGEST> {
             return None;
         }
         let len = self.places[self.head].write_to(buffer);
-        self.head = (self.head + 1) % PLACES;
+        self.head = place_after(self.head, 1);
         self.count -= 1;
         Some(len)
     }

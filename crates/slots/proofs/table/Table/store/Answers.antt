@@ -1,5 +1,5 @@
 use borrow.Author.Needs.{needs}
-use mathlib.Core.Path.{_≡_, sym, ap, _∙_}
+use mathlib.Core.Path.{_≡_, sym, ap, ap₂, _∙_}
 use mathlib.Core.List.{List, map}
 use Prim.Native.Nat.{ℕ, _+_, _<_}
 use native.Mathlib.Omega.{arith}
@@ -18,7 +18,7 @@ returns-then-has-room g c =
     let eight : length (t .places) ≡ 8 = search needs in
     let within : next < length fs = omega (arith, length-map (t .places) frame-of) in
     let V : List (List ℕ) → View = λ xs. record { places = xs; head = t .head; count = t .count + 1 } in
-    let frames = map-set frame-of (t .places) next (c .fill .last .self) ∙ ap (set fs next) (c .fill .ensures) in
+    let frames = map-set frame-of (t .places) _ (c .fill .last .self) ∙ ap₂ (set fs) (c .place-after-next .ensures .place) (c .fill .ensures) in
     stores-filled (view t) _ (c .args .frame .now) within (ltb-true (t .count) 8 (sym (c .if-has-room .ensures tt))) (ap V frames)
 
 pub returns-else-has-room : need.returns-else-has-room
