@@ -29,7 +29,7 @@ fn describe_put(heap: Global, answer: Result<(), UnsoundFrame>) -> Result<String
 
 // A put of a frame.
 pub fn put<L: Lane>(heap: Global, lane: &mut L, frame: &[u8]) -> Result<String, AllocError>
-    ensures { λ r. ⌜ made r (λ word. Put-says (waiting (now (lane .entry))) (now (frame .entry)) (waiting (now (lane .exit))) (string-bytes word)) ⌝ }
+    ensures { λ r. ⌜ made r (λ word. Put-says (waiting (now (lane .entry))) (now (frame .entry)) (waiting (now (lane .exit))) (puts (now (lane .entry)) (now (frame .entry)) (now (lane .exit))) (string-bytes word)) ⌝ }
 {
     let answer = lane.put(frame);
     describe_put(heap, answer)
@@ -65,7 +65,7 @@ fn describe_take(
 
 // A take into a buffer.
 pub fn take<L: Lane>(heap: Global, lane: &mut L, buffer: &mut [u8]) -> Result<String, AllocError>
-    ensures { λ r. ⌜ made r (λ word. Take-says (waiting (now (lane .entry))) (now (buffer .entry)) (waiting (now (lane .exit))) (now (buffer .exit)) (string-bytes word)) ⌝ }
+    ensures { λ r. ⌜ made r (λ word. Take-says (waiting (now (lane .entry))) (now (buffer .entry)) (waiting (now (lane .exit))) (now (buffer .exit)) (λ h. takes (now (lane .entry)) h (now (lane .exit))) (string-bytes word)) ⌝ }
 {
     let answer = lane.take(buffer);
     describe_take(heap, answer, buffer)
