@@ -4,15 +4,16 @@ use mathlib.Core.Bool.{Bool}
 use mathlib.Core.List.{List, [], _∷_, _++_}
 use Prim.Native.Nat.{ℕ}
 use lib.ListN.{take}
-use Rattle.std.proofs.shelf.Lists.{append-assoc, append-nil, joined-more}
+use Rattle.std.proofs.shelf.Lists.{append-nil, joined-more}
 use Rattle.std.specs.Options.{isSome}
 use Rattle.std.specs.Vec.{listOf}
 use Rattle.std.specs.declared.option.Option.{Option}
 use Rattle.std.specs.declared.option.Option.the-variants.{Some, None}
 use Rattle.lane.specs.Calls.{Handed, Taken, Passes}
 use Rattle.lane.specs.Worn.{Worn}
+use Rattle.lane.proofs.Runs.{worn-then}
 use Rattle.lane.proofs.Taking.{taken-front}
-use Rattle.lane.proofs.Worns.{worn-same, worn-trans, worn-append, worn-along}
+use Rattle.lane.proofs.Worns.{worn-same, worn-along}
 use Rattle.transmission.specs.Sending.{Sends, none, one, Sent, Sent-one, received}
 use Rattle.transmission.specs.Tallies.{counted, tally-from, no-traffic}
 use Rattle.transmission.specs.declared.traffic.Traffic.{Traffic}
@@ -43,14 +44,11 @@ module _ {S : Type 0} (waiting : S → List (List ℕ)) (puts : S → List ℕ �
   sent-push s m s′ fs f t came a b =
       let os = a .outcomes in
       let o = b .outcome in
-      let rec = received os in
-      let before = worn-append (a .worn) (worn-same (f ∷ [])) in
-      let after = worn-append (worn-same rec) (b .worn) in
       record {
         outcomes = os ++ o ∷ [];
         sends = sends-push (a .sends) (b .passes);
         worn =
-            worn-along (append-assoc (waiting s) fs (f ∷ [])) (sym (append-assoc rec (listOf o) (waiting s′)) ∙ ap (λ xs. xs ++ waiting s′) (joined-more listOf [] os o))
-            (worn-trans (worn-along refl (append-assoc rec (waiting m) (f ∷ [])) before) after);
+            worn-along refl (ap (λ xs. xs ++ waiting s′) (joined-more listOf [] os o))
+            (worn-then (waiting s) (waiting m) (waiting s′) fs (f ∷ []) (received os) (listOf o) (a .worn) (b .worn));
         tallied = ap₂ counted (a .tallied) (b .tells) ∙ sym (tally-push no-traffic os o);
       }
