@@ -1,4 +1,5 @@
 // The cases of an independent model, on values: each function answers the line that is printed for a case.
+#![tactic(auto)]
 
 pub mod frames;
 pub mod lanes;

@@ -1,4 +1,5 @@
 // The worked examples of the documents.
+#![tactic(auto)]
 
 ghost use Rattle.std.specs.Prelude.{◌≡◌, Ok};
 ghost use Rattle.refusal.specs.Answers.{answer};

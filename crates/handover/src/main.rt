@@ -1,5 +1,6 @@
 // Reads source.hex, a record a line, and prints what it holds, or the first line that is turned down.
 // What it holds then goes over each lane, and what came of it is printed.
+#![tactic(auto)]
 
 use image::{Survey, report};
 use std::fs;

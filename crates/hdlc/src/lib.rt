@@ -1,4 +1,5 @@
 // HDLC frames (ISO/IEC 13239), their flags and check octets left out: the address FFh, a control octet, information.
+#![tactic(auto)]
 
 mod decoder;
 mod encoder;

@@ -1,5 +1,6 @@
 // Intel's hexadecimal object format, a line at a time.
 // A line is a colon and upper-case digit pairs: count, offset, type, data and sum.
+#![tactic(auto)]
 
 mod data_record;
 mod digits;

@@ -1,4 +1,5 @@
 // Image files: lines closed by CR LF, each of them one record.
+#![tactic(auto)]
 
 mod entry;
 mod fault;

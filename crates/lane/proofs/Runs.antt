@@ -1,7 +1,7 @@
 -- runs wear what is put
-use Rattle.std.proofs.Common.{ℕ, List, [], ◌∷◌, ◌++◌, sym, refl}
+use Rattle.std.proofs.Common.{List, [], ◌∷◌, ◌++◌, sym, refl}
 use Rattle.std.proofs.lemmas.List.{append_assoc, append-nil}
-use Rattle.lane.specs.Runs.{Run, begun, put, nothing_yet, take, RunsWear}
+use Rattle.lane.specs.Runs.{begun, put, nothing_yet, take, RunsWear}
 use Rattle.lane.specs.Worn.{Worn}
 use Rattle.lane.proofs.Worns.{Worn_same, Worn_trans, Worn-append, Worn_along}
 

@@ -1,4 +1,5 @@
 // Lanes: a cable in one direction, by the list of frames that wait in it.
+#![tactic(auto)]
 
 mod interface;
 mod length;

@@ -12,8 +12,8 @@ pub fn put_then_take<L: Lane>(
     frame: &[u8],
     buffer: &mut [u8; MAX_FRAME],
 ) -> Result<Option<usize>, UnsoundFrame>
-    ensures list { Passed (waiting lane.old) frame.now buffer.old result (waiting lane.new) buffer.new }
-    ensures exact { IfOk result (λ o. Handed (λ h. Passes puts takes lane.old frame.now h lane.new) o buffer.new) }
+    ensures list { Passed (L.waiting lane.old) frame.now buffer.old result (L.waiting lane.new) buffer.new }
+    ensures exact { IfOk result (λ o. Handed (λ h. Passes L.puts L.takes lane.old frame.now h lane.new) o buffer.new) }
     ensures runs { RunsWear }
 {
     lane.put(frame)?;

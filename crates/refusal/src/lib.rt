@@ -1,4 +1,5 @@
 // Why a call is turned down, and the number that stands for each reason.
+#![tactic(auto)]
 
 ghost use Rattle.std.specs.Prelude.{◌≡◌};
 ghost use Rattle.refusal.specs.Number.{number_of};

@@ -1,4 +1,5 @@
 // A trial of a lane: the records of an image file go over it as I frames, and what comes out is counted.
+#![tactic(auto)]
 
 mod sending;
 mod traffic;

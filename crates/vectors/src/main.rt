@@ -1,5 +1,6 @@
 // Runs the vectors of an independent model: a case a line from standard input, an answer a line to standard output.
 // docs/VECTORS.md has the words of each case and of its answer.
+#![tactic(auto)]
 
 mod frames;
 mod lanes;

@@ -1,7 +1,6 @@
 ghost use Rattle.std.specs.Prelude.{◌≡◌, IfOk, OnErr, OnOk};
 ghost use Rattle.lane.specs.Calls.{Put, Take, Handed};
 ghost use Rattle.lane.specs.Drops.{LayerPuts, LayerTakes, EveryKth, begun, counted, dropped};
-ghost use Rattle.std.proofs.Common.{rules, arith};
 
 use crate::interface::Lane;
 use crate::length::carries;
@@ -42,7 +41,7 @@ impl<L: Lane> Lane for Losing<L> {
 
     ghost takes = { LayerTakes L.Lane.takes };
 
-    ghost carried = { first_of (Prim.search rules, Prim.grind (arith, Self.row.coded.inj)) };
+    ghost carried = { λ s. L.carried s.below };
 
     fn put(&mut self, frame: &[u8]) -> Result<(), UnsoundFrame>
         ensures list { Put (L.Lane.waiting self.old.below) frame.now result (L.Lane.waiting self.new.below) }

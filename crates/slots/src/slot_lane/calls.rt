@@ -2,7 +2,6 @@ ghost use Rattle.std.specs.Prelude.{◌≡◌, [], IfOk, OnErr, OnOk};
 ghost use Rattle.lane.specs.Calls.{Put, Take, Handed};
 ghost use Rattle.slots.specs.Slots.{table_of, in_slots, SlotPuts, SlotTakes};
 ghost use Rattle.slots.specs.Tables.{blank};
-ghost use Rattle.std.proofs.Common.{rules, arith};
 
 use crate::slot_lane::SlotLane;
 use crate::table::Table;
@@ -28,7 +27,7 @@ impl Lane for SlotLane {
 
     ghost takes = { SlotTakes };
 
-    ghost carried = { first_of (Prim.search rules, Prim.grind (arith, Self.row.coded.inj)) };
+    ghost carried = { λ s. s.carried };
 
     fn put(&mut self, frame: &[u8]) -> Result<(), UnsoundFrame>
         ensures list { Put (in_slots self.old) frame.now result (in_slots self.new) }

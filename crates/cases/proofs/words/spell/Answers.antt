@@ -25,8 +25,8 @@ some (b ∷ bs) h = refl
 
 pub loop-b-preserved : goal.loop-b-preserved
 loop-b-preserved c =
-    more c.args.bytes.now c.digits-of.result _ _ _ c.loop-b.b-index c.loop-b-test.true (c.type-inv.bytes c.loop-b.b-index).fits
-    c.digits-of.ensures c.loop-b.invariant c.in-ok-push.ensures.bytes c.in-ok-push-2.ensures.bytes
+    more c.args.bytes.now c.digits-of.result _ _ _ c.loop-b.b-index c.loop-b-test.true (c.type_inv.bytes c.loop-b.b-index).fits
+    c.digits-of.ensures c.loop-b.invariant c.in_ok-push.ensures.bytes c.in_ok-push-2.ensures.bytes
 
 pub returns : goal.returns
 returns c =

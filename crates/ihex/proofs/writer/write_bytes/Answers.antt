@@ -15,8 +15,8 @@ loop-b-preserved c =
     let l = c.loop-b-test.true in
     let inv = c.loop-b.invariant in (
       omega (arith, inv.0),
-      c.write-byte-sum.ensures.sum ∙ ap (λ t. (t + get_or bs i 0) % 256) inv.1 ∙ total_more c.args.start i bs l,
-      c.write-byte-sum.ensures.out
+      c.write_byte-sum.ensures.sum ∙ ap (λ t. (t + get_or bs i 0) % 256) inv.1 ∙ total_more c.args.start i bs l,
+      c.write_byte-sum.ensures.out
           ∙ ap (λ p. set (set c.loop-b.out p (digit (get_or bs i 0 / 16))) (p + 1) (digit (get_or bs i 0 % 16))) inv.0
           ∙ spelled_more c.args.out.now c.args.at i bs c.loop-b.out c.requires l inv.2,
     )

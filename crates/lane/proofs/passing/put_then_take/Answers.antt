@@ -9,12 +9,12 @@ passes : {S : Type 0} (puts : S → List ℕ → S → Type 0) (takes : S → Op
 passes puts takes s m s' f None buf p t = (m, p, t)
 passes puts takes s m s' f (Some n) buf p t = (m, p, t)
 
-pub returns-in-err-put : goal.returns-in-err-put
-returns-in-err-put g c = record { list = search rules; exact = search rules; runs = runs_wear }
+pub returns-in_err-put : goal.returns-in_err-put
+returns-in_err-put g c = record { list = search rules; exact = search rules; runs = runs_wear }
 
 pub returns : goal.returns
 returns g c =
-    let put = c.in-ok-put.ensures in
+    let put = c.in_ok-put.ensures in
     let take = c.in-Ok.ensures in
     let taken = c.in-Ok.taken in
     record {

@@ -9,28 +9,28 @@ use Rattle.ihex.proofs.record.Record.read.Goals as goal
 
 pub decode-requires : goal.decode-requires
 decode-requires c =
-    let n = c.in-ok-count.ensures.fits in
-    (c.in-ok-digits.ensures.digits.0, omega (arith, n.0, n.1))
+    let n = c.in_ok-count.ensures.fits in
+    (c.in_ok-digits.ensures.digits.0, omega (arith, n.0, n.1))
 
 pub returns-then-decode-ne-TOTAL : goal.returns-then-decode-ne-TOTAL
 returns-then-decode-ne-TOTAL c =
     let e =
-    reading_bad_sum c.args.text.now c.in-ok-digits.digits.now c.in-ok-count.count
-    c.in-ok-digits.ensures.answer (sym c.in-ok-count.ensures.answer)
+    reading_bad_sum c.args.text.now c.in_ok-digits.digits.now c.in_ok-count.count
+    c.in_ok-digits.ensures.answer (sym c.in_ok-count.ensures.answer)
     (λ h. c.if-decode-ne-TOTAL.true (c.decode.ensures.sum ∙ h)) in
     record { answer = sym e; canonical = tt }
 
 pub returns : goal.returns
 returns c =
     let t = c.args.text.now in
-    let ds = c.in-ok-digits.digits.now in
-    let n = c.in-ok-count.count in
-    let fits = c.in-ok-count.ensures.fits in
+    let ds = c.in_ok-digits.digits.now in
+    let n = c.in_ok-count.count in
+    let fits = c.in_ok-count.ensures.fits in
     let e =
-    reading_summed t ds n c.in-ok-digits.ensures.answer (sym c.in-ok-count.ensures.answer)
+    reading_summed t ds n c.in_ok-digits.ensures.answer (sym c.in_ok-count.ensures.answer)
     (sym c.decode.ensures.sum ∙ c.if-decode-ne-TOTAL.false) in
     let part : take (5 + n - 0) c.decode.new.out ≡ bytes_of ds =
     ap (take (5 + n - 0)) c.decode.ensures.out
     ∙ take_at (bytes_of ds) _ (5 + n - 0) (omega (arith, length-bytes ds, fits.1)) in
-    let answer = c.find-record.ensures ∙ ap (record_in n) part ∙ sym e in
+    let answer = c.find_record.ensures ∙ ap (record_in n) part ∙ sym e in
     record { answer = answer; canonical = canonical t _ answer }

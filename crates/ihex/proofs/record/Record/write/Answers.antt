@@ -28,9 +28,9 @@ returns c =
     let p = written_whole r out long in
     let parts : total H + total D ≡ total (fields r) =
     sym (total-append H D) ∙ ap total (ap₂ (λ x y. x ++ y) c.header.ensures c.data-data.ensures ∙ take-append-drop 4 (fields r)) in
-    let sum : c.write-bytes-sum.result ≡ total (fields r) % 256 =
-    omega (arith, c.write-bytes-head.ensures.sum, c.write-bytes-sum.ensures.sum, parts) in
+    let sum : c.write_bytes-sum.result ≡ total (fields r) % 256 =
+    omega (arith, c.write_bytes-head.ensures.sum, c.write_bytes-sum.ensures.sum, parts) in
     let es : s ≡ sum_byte (fields r) = c.sum_byte.ensures ∙ ap complement sum ∙ omega arith in
-    let w = line_written r out c.write-bytes-head.new.out c.write-bytes-sum.new.out c.write-bytes.new.out H D s (omega arith)
-    c.header.ensures c.data-data.ensures c.write-bytes-head.ensures.out c.write-bytes-sum.ensures.out c.write-bytes.ensures.out es in
+    let w = line_written r out c.write_bytes-head.new.out c.write_bytes-sum.new.out c.write_bytes.new.out H D s (omega arith)
+    c.header.ensures c.data-data.ensures c.write_bytes-head.ensures.out c.write_bytes-sum.ensures.out c.write_bytes.ensures.out es in
     record { answer = ap Ok n ∙ p.0; buffer = w ∙ p.1; reads_back = reads_back r (sound c.args.self.now) }

@@ -1,4 +1,4 @@
-use Rattle.std.proofs.Common.{◌+◌, [], ◌∷◌, ◌++◌, length, Ok, Err, sym, ap, ◌∙◌, arith}
+use Rattle.std.proofs.Common.{[], ◌∷◌, ◌++◌, length, Ok, Err, sym, ap, ◌∙◌, arith}
 use Rattle.std.proofs.ByRecursion.{All-push}
 use Rattle.std.proofs.lemmas.List.{length-append, length_push, take_rest, append-nil, nil_from_length}
 use Rattle.std.proofs.lemmas.Bool.{eqb-false, eqb-true}
@@ -22,8 +22,8 @@ add-requires c =
       omega (arith, ap (λ s. s.bytes) inv.3, tally-bytes rs, all, size, b.within, b.canonical.1, closed_long r),
     )
 
-pub overflow-add-line : goal.overflow-add-line
-overflow-add-line c =
+pub overflow_add-line : goal.overflow_add-line
+overflow_add-line c =
     let inv = c.loop-rest.invariant in
     let size = length-append (file inv.0) c.loop-rest.rest.now in
     omega (arith, inv.4, file_lines inv.0, ap length inv.2, size)

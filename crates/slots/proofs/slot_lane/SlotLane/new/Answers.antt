@@ -3,9 +3,9 @@ use Rattle.lane.specs.Carried.{all_carried}
 use Rattle.slots.specs.Tables.{waits, from_place}
 use Rattle.slots.proofs.slot_lane.SlotLane.new.Goals as goal
 
-pub invariant-of-result : goal.invariant-of-result
+pub invariant_of-result : goal.invariant_of-result
 unfolding from_place
-invariant-of-result c = (ap (λ v. all_carried (waits v)) c.new.ensures, tt)
+invariant_of-result c = record { carried = ap (λ v. all_carried (waits v)) c.new.ensures }
 
 pub returns : goal.returns
 unfolding from_place

@@ -14,5 +14,5 @@ returns g c =
     let oldest = get_or-map frame_of t.places t.head c.index-self-self.result [] within in
     let first = waits_first (view t) t.at (omega (arith, c.if-self-eq0.false)) in
     let V : ℕ → View = λ h. record { places = (view t).places; head = h; count = t.count - 1 } in
-    let next = ap V c.place-after-self.ensures.place in
-    (_, c.write-to-len.ensures.len, (first ∙ ap₂ (λ f v. f ∷ waits v) oldest (sym next), next), c.write-to-len.ensures.buffer)
+    let next = ap V c.place_after-self.ensures.place in
+    (_, c.write_to-len.ensures.len, (first ∙ ap₂ (λ f v. f ∷ waits v) oldest (sym next), next), c.write_to-len.ensures.buffer)
