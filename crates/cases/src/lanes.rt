@@ -22,7 +22,7 @@ fn describe_put(heap: Global, answer: Result<(), UnsoundFrame>) -> Result<String
 
 // A put of a frame.
 pub fn put<L: Lane>(heap: Global, lane: &mut L, frame: &[u8]) -> Result<String, AllocError>
-    ensures { IfOk result (λ word. PutSays (waiting lane.old) frame.now (waiting lane.new) (puts lane.old frame.now lane.new) (string_bytes word)) }
+    ensures { IfOk result (λ word. PutSays (L.waiting lane.old) frame.now (L.waiting lane.new) (L.puts lane.old frame.now lane.new) (string_bytes word)) }
 {
     let answer = lane.put(frame);
     describe_put(heap, answer)
@@ -58,7 +58,7 @@ fn describe_take(
 
 // A take into a buffer.
 pub fn take<L: Lane>(heap: Global, lane: &mut L, buffer: &mut [u8]) -> Result<String, AllocError>
-    ensures { IfOk result (λ word. TakeSays (waiting lane.old) buffer.old (waiting lane.new) buffer.new (λ h. takes lane.old h lane.new) (string_bytes word)) }
+    ensures { IfOk result (λ word. TakeSays (L.waiting lane.old) buffer.old (L.waiting lane.new) buffer.new (λ h. L.takes lane.old h lane.new) (string_bytes word)) }
 {
     let answer = lane.take(buffer);
     describe_take(heap, answer, buffer)

@@ -4,7 +4,7 @@ use Rattle.std.proofs.lemmas.List.{append_assoc, append_cancel_left, append-nil,
 use Rattle.std.proofs.lemmas.Bool.{and_left, and_parts, cond-false, le-ltb, ne_eqb}
 use Rattle.std.proofs.lemmas.Bool.Decides.{nat_tests}
 use Rattle.std.specs.Option.{option_map}
-use Rattle.std.specs.List.{AllByRecursion as All}
+use Rattle.std.specs.List.{AllByRecursion}
 use Rattle.refusal.specs.Answers.{then}
 use Rattle.ihex.specs.Content.{Content, data_at, end_of_file, line, Sound}
 use Rattle.ihex.specs.Digits.{is_digit, all_digits}
@@ -61,8 +61,8 @@ same_first r q xs ys hr hq e =
     let g : ◌≡◌ {A = Head} (record { content = r; size = length (closed r) }) (record { content = q; size = length (closed q) }) = cc in
     ap (λ h. h.content) g
 
-apart : (rs qs : List Content) (rest : List ℕ) → All Sound rs → All Sound qs → file rs ≡ file qs ++ rest
-    → (ps : List Content) × (rs ≡ qs ++ ps) × (rest ≡ file ps) × All Sound ps
+apart : (rs qs : List Content) (rest : List ℕ) → AllByRecursion Sound rs → AllByRecursion Sound qs → file rs ≡ file qs ++ rest
+    → (ps : List Content) × (rs ≡ qs ++ ps) × (rest ≡ file ps) × AllByRecursion Sound ps
 apart rs [] rest hr hq e = (rs, refl, sym e, hr)
 apart [] (q ∷ qs) rest hr hq e =
     absurd (omega (arith, closed_long q, ap length e, length-append (closed q ++ file qs) rest, length-append (closed q) (file qs)))
@@ -77,7 +77,7 @@ no_records : (ps : List Content) → file ps ≡ [] → ps ≡ []
 no_records [] e = refl
 no_records (p ∷ ps) e = absurd (omega (arith, ap length e, length-append (closed p) (file ps), closed_long p))
 
-no_refusal : (ps : List Content) (rest : List ℕ) (f : ImageFault) → All Sound ps → rest ≡ file ps → 1 ≤ length rest → first_record rest ≡ Err f → ⊥
+no_refusal : (ps : List Content) (rest : List ℕ) (f : ImageFault) → AllByRecursion Sound ps → rest ≡ file ps → 1 ≤ length rest → first_record rest ≡ Err f → ⊥
 no_refusal [] rest f h e some r = omega (arith, ap length e)
 no_refusal (p ∷ ps) rest f h e some r =
     let g = sym r ∙ ap first_record e ∙ accepted p (file ps) h.0 in

@@ -1,6 +1,6 @@
 -- what an image file holds in all
 use Rattle.std.specs.Prelude.{◌≡◌, ℕ, ◌+◌, ◌≤◌, min, max, true, false, List, [], ◌∷◌, ◌++◌, length, Ok, Err, Result}
-use Rattle.std.specs.List.{AllByRecursion as All}
+use Rattle.std.specs.List.{AllByRecursion}
 use Rattle.ihex.specs.Content.{Content, data_at, end_of_file, Sound}
 use Rattle.image.specs.Files.{file, first_record}
 use Rattle.image.specs.declared.offsets.Offsets.{Offsets}
@@ -41,11 +41,11 @@ tally rs = tally_from nothing_yet rs
 -- A text is accepted if it is a file of records, and these are tallied.
 -- It is refused at its first line that is none: the lines before it are records, and the text goes on there.
 abbrev pub Surveyed : List ℕ → Result Survey Refused → Type 0
-Surveyed t (Ok s) = (rs : List Content) × All Sound rs × (t ≡ file rs) × (s ≡ tally rs)
+Surveyed t (Ok s) = (rs : List Content) × AllByRecursion Sound rs × (t ≡ file rs) × (s ≡ tally rs)
 Surveyed t (Err e) =
-    (rs : List Content) × (rest : List ℕ) × All Sound rs × (t ≡ file rs ++ rest) × (1 ≤ length rest)
+    (rs : List Content) × (rest : List ℕ) × AllByRecursion Sound rs × (t ≡ file rs ++ rest) × (1 ≤ length rest)
     × (e.line ≡ length rs + 1) × (first_record rest ≡ Err e.fault)
 
 -- every file of records is accepted, with their tally
 abbrev pub Accepts : List ℕ → Result Survey Refused → Type 0
-Accepts t a = (rs : List Content) → All Sound rs → t ≡ file rs → a ≡ Ok (tally rs)
+Accepts t a = (rs : List Content) → AllByRecursion Sound rs → t ≡ file rs → a ≡ Ok (tally rs)

@@ -1,6 +1,6 @@
 -- the laws of worn copies
 use Rattle.std.proofs.Common.{◌≡◌, List, [], ◌∷◌, ◌++◌, refl, subst}
-use Rattle.std.specs.List.{AllByRecursion as All}
+use Rattle.std.specs.List.{AllByRecursion}
 use Rattle.lane.specs.Worn.{Worn, done, skip, copy}
 
 pub Worn_same : {X : Type 0} (xs : List X) → Worn xs xs
@@ -33,7 +33,7 @@ Worn_lost [] x = skip done
 Worn_lost (y ∷ xs) x = copy (skip (Worn_lost xs x))
 
 -- what holds of each element holds of each of a worn copy
-pub Worn_all : {X : Type 0} (P : X → Type 0) {xs ys : List X} → Worn xs ys → All P xs → All P ys
+pub Worn_all : {X : Type 0} (P : X → Type 0) {xs ys : List X} → Worn xs ys → AllByRecursion P xs → AllByRecursion P ys
 Worn_all P done a = tt
 Worn_all P (skip w) a = Worn_all P w a.1
 Worn_all P (copy w) a = (a.0, Worn_all P w a)

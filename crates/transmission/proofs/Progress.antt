@@ -2,7 +2,7 @@
 use Rattle.std.proofs.Common.{◌≡◌, ℕ, suc, ◌+◌, ◌-◌, ◌*◌, ◌%◌, ◌<◌, ◌≤◌, Bool, true, false, List, [], ◌∷◌, ◌++◌, length, take, drop, Some, None, Option, sym, refl, ap, ◌∙◌, subst, ap₂, arith}
 use Rattle.std.proofs.ByRecursion.{All-push}
 use Rattle.std.proofs.lemmas.List.{append_assoc, length-append, length_push, take_at}
-use Rattle.std.specs.List.{AllByRecursion as All}
+use Rattle.std.specs.List.{AllByRecursion}
 use Rattle.ihex.specs.Content.{Content, line, Sound}
 use Rattle.hdlc.specs.Messages.{information, frame}
 use Rattle.hdlc.specs.Numbers.{number_of, next_number}
@@ -42,7 +42,7 @@ line_front r t n e h =
 module _ {S : Type 0} (waiting : S → List (List ℕ)) (puts : S → List ℕ → S → Type 0) (takes : S → Option (List ℕ) → S → Type 0) where
   pub record SoFar (s : S) (text : List ℕ) (t : Traffic) (n : SequenceNumber) (rest : List ℕ) (s' : S) : Type 0 where
     pub records : List Content
-    pub sound : All Sound records
+    pub sound : AllByRecursion Sound records
     pub begins : text ≡ file records ++ rest
     pub counts : number_of n ≡ length records % 8
     pub sent : Sent waiting puts takes s (numbered 0 records) t s'
@@ -59,12 +59,12 @@ module _ {S : Type 0} (waiting : S → List (List ℕ)) (puts : S → List ℕ �
   pub far_on : (s m s' : S) (text rest rest' xs : List ℕ) (t t' : Traffic) (n n' : SequenceNumber) (r : Content) (came : Bool)
       → SoFar s text t n rest m → Sound r → rest ≡ closed r ++ rest' → xs ≡ line r → t' ≡ counted t came → number_of n' ≡ next_number (number_of n)
       → SentOne waiting puts takes m (frame (information (number_of n) xs)) came s' → SoFar s text t' n' rest' s'
-  far_on s m s' text rest rest' xs t t' n n' r came a sound begins is-line counts next sent =
+  far_on s m s' text rest rest' xs t t' n n' r came a sound begins is_line counts next sent =
       let rs = a.records in
       let f : List ℕ = frame (information (number_of n) xs) in
       let number : number_of n ≡ (0 + length rs) % 8 = omega (arith, a.counts) in
       let frames : numbered 0 rs ++ f ∷ [] ≡ numbered 0 (rs ++ r ∷ []) =
-      ap₂ (λ k ys. numbered 0 rs ++ frame (information k ys) ∷ []) number is-line ∙ sym (numbered_push 0 rs r (omega arith)) in
+      ap₂ (λ k ys. numbered 0 rs ++ frame (information k ys) ∷ []) number is_line ∙ sym (numbered_push 0 rs r (omega arith)) in
       record {
         records = rs ++ r ∷ [];
         sound = All-push Sound rs r a.sound sound;

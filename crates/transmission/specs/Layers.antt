@@ -1,6 +1,6 @@
 -- losing layers over a slot lane: which frames come out, where one is taken after each put
 use Rattle.std.specs.Prelude.{◌≡◌, ℕ, ◌/◌, Bool, false, cond, ◌||◌, List, [], ◌∷◌, ◌++◌, is_ok, Some, None, Option, ◌==◌}
-use Rattle.std.specs.List.{AllByRecursion as All}
+use Rattle.std.specs.List.{AllByRecursion}
 use Rattle.ihex.specs.Content.{Content, Sound}
 use Rattle.lane.specs.Drops.{counted, dropped}
 use Rattle.image.specs.Files.{file, first_record}
@@ -36,7 +36,7 @@ outcomes ls (f ∷ fs) = cond (drops ls) None (Some f) ∷ outcomes (after ls) f
 pub record Trial (ls : List Layer) (text : List ℕ) (t : Traffic) : Type 0 where
   pub records : List Content
   pub rest : List ℕ
-  pub sound : All Sound records
+  pub sound : AllByRecursion Sound records
   pub begins : text ≡ file records ++ rest
   pub ends : is_ok (first_record rest) ≡ false
   pub tallied : t ≡ tally (outcomes ls (numbered 0 records))

@@ -1,7 +1,7 @@
 -- sending the records of a file over a lane, each as an I frame
 use Rattle.std.specs.Prelude.{◌≡◌, ℕ, Bool, false, List, [], ◌∷◌, ◌++◌, is_some, is_ok, Option}
 use Rattle.std.specs.Option.{option_to_list}
-use Rattle.std.specs.List.{flat_map, AllByRecursion as All}
+use Rattle.std.specs.List.{flat_map, AllByRecursion}
 use Rattle.ihex.specs.Content.{Content, line, Sound}
 use Rattle.hdlc.specs.Messages.{information, frame}
 use Rattle.hdlc.specs.Numbers.{next_number}
@@ -44,7 +44,7 @@ module _ {S : Type 0} (waiting : S → List (List ℕ)) (puts : S → List ℕ �
   pub record Transmitted (s : S) (text : List ℕ) (t : Traffic) (s' : S) : Type 0 where
     pub records : List Content
     pub rest : List ℕ
-    pub sound : All Sound records
+    pub sound : AllByRecursion Sound records
     pub begins : text ≡ file records ++ rest
     pub ends : is_ok (first_record rest) ≡ false
     pub sent : Sent s (numbered 0 records) t s'

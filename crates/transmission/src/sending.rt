@@ -11,7 +11,7 @@ use lane::{Lane, MAX_FRAME, put_then_take};
 // Puts a line on a lane as an I frame, and answers whether a frame could then be taken.
 fn send<L: Lane>(lane: &mut L, number: SequenceNumber, line: &[u8]) -> bool
     requires { length line.now ≤ 267 }
-    ensures { SentOne waiting puts takes lane.old (frame (information (number_of number) line.now)) result lane.new }
+    ensures { SentOne L.waiting L.puts L.takes lane.old (frame (information (number_of number) line.now)) result lane.new }
 {
     let mut octets = [0; MAX_FRAME];
     let frame = Frame::Information {
@@ -31,7 +31,7 @@ fn send<L: Lane>(lane: &mut L, number: SequenceNumber, line: &[u8]) -> bool
 // Sends the records at the front of a text over a lane, up to the first line that is none:
 // each as an I frame, numbered from 0 on, and after each put a frame is taken if one comes.
 pub fn transmit<L: Lane>(lane: &mut L, text: &[u8]) -> Traffic
-    ensures { Transmitted waiting puts takes lane.old text.now result lane.new }
+    ensures { Transmitted L.waiting L.puts L.takes lane.old text.now result lane.new }
 {
     let mut traffic = Traffic::new();
     let mut number = SequenceNumber::modulo(0);

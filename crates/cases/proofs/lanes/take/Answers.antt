@@ -3,4 +3,4 @@ use Rattle.cases.proofs.lanes.take.Goals as goal
 
 pub returns : goal.returns
 returns g c =
-    IfOk-weaker c.describe-take.result _ _ (λ word e. (c.take-answer.result, c.take-answer.ensures.list, c.take-answer.ensures.exact, e)) c.describe-take.ensures
+    IfOk-weaker c.describe_take.result _ _ (λ word e. (c.take-answer.result, c.take-answer.ensures.list, c.take-answer.ensures.exact, e)) c.describe_take.ensures

@@ -25,10 +25,10 @@ some (b ∷ bs) h = refl
 
 pub loop-b-preserved : goal.loop-b-preserved
 loop-b-preserved c =
-    more c.args.bytes.now c.digits-of.result _ _ _ c.loop-b.b-index c.loop-b-test.true (c.type_inv.bytes c.loop-b.b-index).fits
-    c.digits-of.ensures c.loop-b.invariant c.in_ok-push.ensures.bytes c.in_ok-push-2.ensures.bytes
+    more c.args.bytes.now c.digits_of.result _ _ _ c.loop-b.b-index c.loop-b-test.true (c.type_inv.bytes c.loop-b.b-index).fits
+    c.digits_of.ensures c.loop-b.invariant c.in_ok-push.ensures.bytes c.in_ok-push-2.ensures.bytes
 
 pub returns : goal.returns
 returns c =
     let bs = c.args.bytes.now in
-    c.loop-b.invariant ∙ ap digits (take_all c.loop-b.b-index bs c.loop-b-test.false) ∙ some bs (sym c.if-is-empty.ensures)
+    c.loop-b.invariant ∙ ap digits (take_all c.loop-b.b-index bs c.loop-b-test.false) ∙ some bs (sym c.if-is_empty.ensures)

@@ -14,6 +14,6 @@ returns g c =
     let all : n - 0 ≡ n = omega arith in
     let put : take (n - 0) octets ≡ frame m =
     ap (λ k. take k octets) all ∙ ap (take n) c.in-Ok.ensures.buffer ∙ encoded_front m (replicate 269 0) n c.in-Ok.ensures.answer in
-    let b = c.in-Ok-put-then-take.ensures in
-    subst (λ f. SentOne g.L.Lane.waiting g.L.Lane.puts g.L.Lane.takes c.args.lane.now f c.is-some.result c.put-then-take.new.lane) put
-    (sent_one g.L.Lane.waiting g.L.Lane.puts g.L.Lane.takes _ _ _ _ _ c.in-Ok-put-then-take.taken _ c.is-some.ensures b.list.1 b.exact)
+    let b = c.in-Ok-put_then_take.ensures in
+    subst (λ f. SentOne g.L.Lane.waiting g.L.Lane.puts g.L.Lane.takes c.args.lane.now f c.is_some.result c.put_then_take.new.lane) put
+    (sent_one g.L.Lane.waiting g.L.Lane.puts g.L.Lane.takes _ _ _ _ _ c.in-Ok-put_then_take.taken _ c.is_some.ensures b.list.1 b.exact)

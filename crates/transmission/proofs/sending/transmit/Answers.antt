@@ -23,4 +23,4 @@ loop-entry-preserved g c =
     far_on g.L.Lane.waiting g.L.Lane.puts g.L.Lane.takes _ _ _ _ rest _ _ _ _ _ _ r _ c.loop-entry.invariant b.0
     (b.2 ∙ ap (λ xs. closed r ++ xs) (sym (take_rest rest n)))
     (ap (λ k. take k rest) all ∙ line_front r rest n b.1 b.2)
-    c.count.ensures c.next_number.ensures c.send-came.ensures
+    c.count.ensures c.next-number.ensures c.send-came.ensures

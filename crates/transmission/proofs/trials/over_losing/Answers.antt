@@ -9,4 +9,4 @@ pub returns : goal.returns
 returns c =
     let like = begins_like SlotPuts SlotTakes SlotsLike slots_prompt _ c.args.every [] c.new-lane.result c.new.ensures.empty c.new-lane.ensures.begun in
     let t = trial _ _ _ _ (losing_prompt SlotPuts SlotTakes SlotsLike slots_prompt) _ _ _ _ _ like c.transmit.ensures in
-    record { trial = t; every-kth-lost = kth_lost c.args.every _ (numbered 0 t.records) t.tallied }
+    record { trial = t; every_kth_lost = kth_lost c.args.every _ (numbered 0 t.records) t.tallied }
