@@ -22,7 +22,7 @@ take_word (Err _) buf = refused_part reason.BufferTooShort
 
 -- the word is that of an answer that the lane may give, and the lane did what it does at such an answer
 abbrev pub PutSays : List (List ℕ) → List ℕ → List (List ℕ) → Type 0 → List ℕ → Type 0
-PutSays old f new does word = (a : Result (Unit {0}) UnsoundFrame) × Put old f a new × OnOk a (does) × (word ≡ put_word a)
+PutSays old f new does word = (a : Result (Unit {0}) UnsoundFrame) × Put old f a new × OnOk a does × (word ≡ put_word a)
 
 abbrev pub TakeSays : List (List ℕ) → List ℕ → List (List ℕ) → List ℕ → (Option (List ℕ) → Type 0) → List ℕ → Type 0
 TakeSays old buf new buf' does word =

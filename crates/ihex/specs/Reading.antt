@@ -1,5 +1,5 @@
 -- reading a line: the checks in their order, and the record that they leave
-use Rattle.std.specs.Prelude.{ℕ, ◌+◌, ◌*◌, ◌%◌, Bool, cond, not, ◌&&◌, List, length, take, drop, Ok, Result, ◌==◌, nat_le, nat_lt, slice_index, slice_index_or}
+use Rattle.std.specs.Prelude.{ℕ, ◌+◌, ◌*◌, ◌%◌, Bool, cond, not, ◌&&◌, List, length, take, drop, Ok, Result, ◌==◌, nat_le, nat_lt, slice_index}
 use Rattle.refusal.specs.Answers.{then, refuse}
 use Rattle.ihex.specs.Content.{Content, data_at, end_of_file, is_data}
 use Rattle.ihex.specs.Digits.{all_digits, bytes_of, total}
@@ -20,7 +20,7 @@ is_counted n digits = nat_le n 128 && digits == 10 + 2 * n
 
 -- the count, if there are as many digits as it says
 abbrev pub counted : List ℕ → Result ℕ RecordFault
-counted ds = let n = slice_index_or (bytes_of ds) 0 0 in refuse (not (is_counted n (length ds))) Count (Ok n)
+counted ds = let n = slice_index (bytes_of ds) 0 in refuse (not (is_counted n (length ds))) Count (Ok n)
 
 -- the bytes, if they total 0 modulo 256
 abbrev pub summed : List ℕ → Result (List ℕ) RecordFault

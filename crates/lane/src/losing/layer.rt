@@ -35,17 +35,17 @@ impl<L> Losing<L> {
 }
 
 impl<L: Lane> Lane for Losing<L> {
-    ghost waiting = { λ s. L.Lane.waiting s.below };
+    ghost waiting = { λ s. L.waiting s.below };
 
-    ghost puts = { LayerPuts L.Lane.puts };
+    ghost puts = { LayerPuts L.puts };
 
-    ghost takes = { LayerTakes L.Lane.takes };
+    ghost takes = { LayerTakes L.takes };
 
     ghost carried = { λ s. L.carried s.below };
 
     fn put(&mut self, frame: &[u8]) -> Result<(), UnsoundFrame>
-        ensures list { Put (L.Lane.waiting self.old.below) frame.now result (L.Lane.waiting self.new.below) }
-        ensures exact { OnOk result (LayerPuts L.Lane.puts self.old frame.now self.new) }
+        ensures list { Put (L.waiting self.old.below) frame.now result (L.waiting self.new.below) }
+        ensures exact { OnOk result (LayerPuts L.puts self.old frame.now self.new) }
         ensures stays { OnErr result (self.new ≡ self.old) }
     {
         if !carries(frame.len()) {
@@ -59,8 +59,8 @@ impl<L: Lane> Lane for Losing<L> {
     }
 
     fn take(&mut self, buffer: &mut [u8]) -> Result<Option<usize>, BufferTooShort>
-        ensures list { Take (L.Lane.waiting self.old.below) buffer.old result (L.Lane.waiting self.new.below) buffer.new }
-        ensures exact { IfOk result (λ o. Handed (λ h. LayerTakes L.Lane.takes self.old h self.new) o buffer.new) }
+        ensures list { Take (L.waiting self.old.below) buffer.old result (L.waiting self.new.below) buffer.new }
+        ensures exact { IfOk result (λ o. Handed (λ h. LayerTakes L.takes self.old h self.new) o buffer.new) }
     {
         self.below.take(buffer)
     }
