@@ -1,21 +1,23 @@
 // Encoding: the octets of a frame, at the front of a buffer.
 
-ghost use Rattle.std.specs.Prelude.{◌≡◌};
+ghost use Rattle.std.specs.Prelude.{◌≡◌, take, IfOk};
+ghost use Rattle.hdlc.specs.Controls.{octet_of};
 ghost use Rattle.hdlc.specs.Encoding.{encoded, encoded_to};
 ghost use Rattle.hdlc.specs.Laws.{DecodesBack};
 ghost use Rattle.hdlc.specs.Meaning.{message_of};
-ghost use Rattle.hdlc.specs.Messages.{control_of, information_of};
+ghost use Rattle.hdlc.specs.Messages.{control_of, information_of, frame};
 
+use crate::control::Control;
 use crate::fault::EncodeFault;
 use crate::frame::Frame;
 
 impl<'a> Frame<'a> {
-    fn control(self) -> u8
-        ensures { result ≡ control_of (message_of self.entry) }
+    fn control(self) -> Control
+        ensures { octet_of result ≡ control_of (message_of self.entry) }
     {
         match self {
-            Frame::Information { number, .. } => 2 * number.value(),
-            Frame::ReceiveReady { number } => 1 + 32 * number.value(),
+            Frame::Information { number, .. } => Control::Information(number),
+            Frame::ReceiveReady { number } => Control::ReceiveReady(number),
         }
     }
 
@@ -33,6 +35,7 @@ impl<'a> Frame<'a> {
     pub fn encode(self, out: &mut [u8]) -> Result<usize, EncodeFault>
         ensures answer { result ≡ encoded (message_of self.entry) out.old }
         ensures buffer { out.new ≡ encoded_to (message_of self.entry) out.old }
+        ensures front { IfOk result (λ n. take n out.new ≡ frame (message_of self.entry)) }
         ensures decodes_back { DecodesBack (message_of self.entry) }
     {
         let information = self.information();
@@ -44,9 +47,8 @@ impl<'a> Frame<'a> {
             return Err(EncodeFault::BufferTooShort);
         }
         out[0] = Frame::ADDRESS;
-        out[1] = self.control();
-        let rest = &mut out[Frame::HEADER..length];
-        rest.copy_from_slice(information);
+        out[1] = u8::from(self.control());
+        out[Frame::HEADER..length].copy_from_slice(information);
         Ok(length)
     }
 }

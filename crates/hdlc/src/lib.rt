@@ -1,6 +1,7 @@
 // HDLC frames (ISO/IEC 13239), their flags and check octets left out: the address FFh, a control octet, information.
 #![tactic(auto)]
 
+mod control;
 mod decoder;
 mod encoder;
 mod fault;

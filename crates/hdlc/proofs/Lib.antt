@@ -1,2 +1,0 @@
-pub mod Inverse
-pub mod Fronts
