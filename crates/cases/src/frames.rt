@@ -1,33 +1,32 @@
 // Cases of frames.
 
-ghost use Rattle.std.specs.Prelude.{◌≡◌, IfOk, string_bytes};
+ghost use Rattle.std.specs.Prelude.{◌≡◌, IfOk, Some, string_bytes};
 ghost use Rattle.hdlc.specs.Decoding.{decoding};
 ghost use Rattle.hdlc.specs.Encoding.{encoded_to};
 ghost use Rattle.hdlc.specs.Meaning.{message_of};
 ghost use Rattle.cases.specs.Frames.{message_words, decode_words, frame_written};
 ghost use Rattle.cases.specs.Words.{write_words};
 
-use crate::words::{describe_written, spell};
+use crate::words::{Word, describe_written};
 use hdlc::Frame;
 use refusal::Refusal;
 use std::alloc::{AllocError, Global};
+use std::fmt;
 
-fn describe(heap: Global, frame: Frame<'_>) -> Result<String, AllocError>
-    ensures { IfOk result (λ line. string_bytes line ≡ message_words (message_of frame.entry)) }
-{
-    match frame {
-        Frame::Information {
-            number,
-            information,
-        } => {
-            let number = number.value();
-            let word = spell(heap, information)?;
-            let word = word.as_str();
-            format!(in heap; "information {number} {word}")
-        }
-        Frame::ReceiveReady { number } => {
-            let number = number.value();
-            format!(in heap; "ready {number}")
+// A frame in words.
+#[derive(Clone, Copy)]
+struct Told<'a>(Frame<'a>);
+
+impl fmt::Display for Told<'_> {
+    ghost output = { λ t. Some (message_words (message_of t.0)) };
+
+    fn fmt<W: fmt::Write>(&self, f: &mut fmt::Formatter<W>) -> fmt::Result {
+        match self.0 {
+            Frame::Information {
+                number,
+                information,
+            } => write!(f, "information {} {}", number.value(), Word(information)),
+            Frame::ReceiveReady { number } => write!(f, "ready {}", number.value()),
         }
     }
 }
@@ -37,11 +36,8 @@ pub fn decode(heap: Global, octets: &[u8]) -> Result<String, AllocError>
     ensures { IfOk result (λ line. string_bytes line ≡ decode_words (decoding octets.now)) }
 {
     match Frame::decode(octets) {
-        Ok(frame) => describe(heap, frame),
-        Err(fault) => {
-            let number = Refusal::from(fault).number();
-            format!(in heap; "refused {number}")
-        }
+        Ok(frame) => format!(in heap; "{}", Told(frame)),
+        Err(fault) => format!(in heap; "refused {}", Refusal::from(fault)),
     }
 }
 

@@ -1,26 +1,28 @@
 // Cases of records.
 
-ghost use Rattle.std.specs.Prelude.{◌≡◌, IfOk, string_bytes};
+ghost use Rattle.std.specs.Prelude.{◌≡◌, IfOk, Some, string_bytes};
 ghost use Rattle.ihex.specs.Meaning.{content};
 ghost use Rattle.ihex.specs.Reading.{reading, data_record};
 ghost use Rattle.cases.specs.Records.{record_words, read_words, data_written, buffer_written};
 ghost use Rattle.cases.specs.Words.{write_words};
 
-use crate::words::{describe_written, spell};
+use crate::words::{Word, describe_written};
 use ihex::{DataRecord, Record};
 use refusal::Refusal;
 use std::alloc::{AllocError, Global};
+use std::fmt;
 
-fn describe(heap: Global, record: Record) -> Result<String, AllocError>
-    ensures { IfOk result (λ line. string_bytes line ≡ record_words (content «record»)) }
-{
-    match record {
-        Record::End => String::from_str(heap, "end"),
-        Record::Data(data) => {
-            let offset = data.offset();
-            let word = spell(heap, data.data())?;
-            let word = word.as_str();
-            format!(in heap; "data {offset} {word}")
+// A record in words.
+#[derive(Clone, Copy)]
+struct Told(Record);
+
+impl fmt::Display for Told {
+    ghost output = { λ t. Some (record_words (content t.0)) };
+
+    fn fmt<W: fmt::Write>(&self, f: &mut fmt::Formatter<W>) -> fmt::Result {
+        match &self.0 {
+            Record::End => write!(f, "end"),
+            Record::Data(data) => write!(f, "data {} {}", data.offset(), Word(data.data())),
         }
     }
 }
@@ -30,11 +32,8 @@ pub fn read(heap: Global, text: &[u8]) -> Result<String, AllocError>
     ensures { IfOk result (λ line. string_bytes line ≡ read_words (reading text.now)) }
 {
     match Record::read(text) {
-        Ok(record) => describe(heap, record),
-        Err(fault) => {
-            let number = Refusal::from(fault).number();
-            format!(in heap; "refused {number}")
-        }
+        Ok(record) => format!(in heap; "{}", Told(record)),
+        Err(fault) => format!(in heap; "refused {}", Refusal::from(fault)),
     }
 }
 

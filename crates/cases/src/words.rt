@@ -1,26 +1,29 @@
 // The words of which answers are made.
 
-ghost use Rattle.std.specs.Prelude.{◌≡◌, IfOk, string_bytes};
+ghost use Rattle.std.specs.Prelude.{IfOk, Some, ◌≡◌, string_bytes};
 ghost use Rattle.cases.specs.Words.{word_of, write_words};
 
-use ihex::digits_of;
 use refusal::Refusal;
 use std::alloc::{AllocError, Global};
+use std::fmt;
 
 // Bytes as their digits; '-' stands for none.
-pub fn spell(heap: Global, bytes: &[u8]) -> Result<String, AllocError>
-    ensures { IfOk result (λ word. string_bytes word ≡ word_of bytes.now) }
-{
-    if bytes.is_empty() {
-        return String::from_str(heap, "-");
+#[derive(Clone, Copy, Debug)]
+pub struct Word<'a>(pub &'a [u8]);
+
+impl fmt::Display for Word<'_> {
+    ghost output = { λ w. Some (word_of w.0.now) };
+
+    fn fmt<W: fmt::Write>(&self, f: &mut fmt::Formatter<W>) -> fmt::Result {
+        let bytes = self.0;
+        if bytes.is_empty() {
+            return write!(f, "-");
+        }
+        for &b in bytes {
+            write!(f, "{b:02X}")?;
+        }
+        Ok(())
     }
-    let mut word = String::new(heap);
-    for b in bytes {
-        let [high, low] = digits_of(*b);
-        word.push(high as char)?;
-        word.push(low as char)?;
-    }
-    Ok(word)
 }
 
 // What was written to a buffer, or the refusal.
@@ -31,13 +34,9 @@ pub(crate) fn describe_written(
 ) -> Result<String, AllocError>
     ensures { IfOk result (λ line. string_bytes line ≡ write_words answer out.now) }
 {
-    let word = spell(heap, out)?;
-    let word = word.as_str();
+    let word = Word(out);
     match answer {
         Ok(n) => format!(in heap; "written {n} {word}"),
-        Err(refusal) => {
-            let number = refusal.number();
-            format!(in heap; "refused {number} {word}")
-        }
+        Err(refusal) => format!(in heap; "refused {refusal} {word}"),
     }
 }
