@@ -50,6 +50,8 @@ impl fmt::Display for Refusal {
     }
 }
 
+// Of these two a signature names the one that it can answer; one type with a parameter would say neither more nor less.
+
 // A caller's buffer is shorter than what is to be written to it, so nothing is written.
 #[derive(Clone, Copy, PartialEq, Eq, Debug)]
 pub struct BufferTooShort;

@@ -1,4 +1,4 @@
-use crate::parsing::{buffer, octet, octets};
+use crate::parsing::{buffer, number, octets};
 use hdlc::{Frame, SequenceNumber};
 use std::alloc::Global;
 
@@ -7,22 +7,25 @@ pub(crate) fn decode(heap: Global, rest: &str) -> anyhow::Result<String> {
     Ok(cases::frames::decode(heap, octets.as_slice())?)
 }
 
+// A frame written to a buffer of the length that a word says.
+fn encode(heap: Global, frame: Frame<'_>, length: Option<&str>) -> anyhow::Result<String> {
+    let mut out = buffer(heap, length)?;
+    Ok(cases::frames::encode(heap, frame, out.as_mut_slice())?)
+}
+
 pub(crate) fn encode_information(heap: Global, rest: &str) -> anyhow::Result<String> {
     let mut words = rest.split(' ');
-    let number = SequenceNumber::modulo(octet(words.next())?);
+    let number = SequenceNumber::modulo(number(words.next())?);
     let information = octets(heap, words.next())?;
-    let mut out = buffer(heap, words.next())?;
     let frame = Frame::Information {
         number,
         information: information.as_slice(),
     };
-    Ok(cases::frames::encode(heap, frame, out.as_mut_slice())?)
+    encode(heap, frame, words.next())
 }
 
 pub(crate) fn encode_ready(heap: Global, rest: &str) -> anyhow::Result<String> {
     let mut words = rest.split(' ');
-    let number = SequenceNumber::modulo(octet(words.next())?);
-    let mut out = buffer(heap, words.next())?;
-    let frame = Frame::receive_ready(number);
-    Ok(cases::frames::encode(heap, frame, out.as_mut_slice())?)
+    let frame = Frame::receive_ready(SequenceNumber::modulo(number(words.next())?));
+    encode(heap, frame, words.next())
 }

@@ -1,4 +1,4 @@
-use crate::parsing::{buffer, octet, octets};
+use crate::parsing::{buffer, number, octets};
 use anyhow::Context;
 use lane::{Lane, Losing};
 use slots::SlotLane;
@@ -37,6 +37,6 @@ pub(crate) fn over_slots(heap: Global, rest: &str) -> anyhow::Result<String> {
 // A losing layer over a slot lane.
 pub(crate) fn over_losing(heap: Global, rest: &str) -> anyhow::Result<String> {
     let (every, words) = rest.split_once(' ').context("no calls")?;
-    let mut lane = Losing::new(SlotLane::new(), octet(Some(every))?);
+    let mut lane = Losing::new(SlotLane::new(), number(Some(every))?);
     calls(heap, &mut lane, words)
 }

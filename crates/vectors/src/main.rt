@@ -11,7 +11,7 @@ use anyhow::{Context, anyhow};
 use std::alloc::Global;
 use std::io::{BufRead, BufReader};
 
-// The answer to one case.
+// The answer to one case. A match on the first word shows all cases at once; a table would be one of pointers to functions.
 fn answer(heap: Global, case: &str) -> anyhow::Result<String> {
     let (kind, rest) = case.split_once(' ').context("a case has one word only")?;
     match kind {

@@ -2,15 +2,15 @@
 
 use anyhow::{Context, anyhow};
 use std::alloc::Global;
+use std::error::Error;
+use std::str::FromStr;
 
 // What a buffer is filled with before something is written to it.
 const BLANK: u8 = b'.';
 
 fn digit(c: u8) -> anyhow::Result<u8> {
-    match char::from(c).to_digit(16) {
-        Some(d) => Ok((d & 15) as u8),
-        None => Err(anyhow!("no hexadecimal digit")),
-    }
+    let value = char::from(c).to_digit(16).context("no hexadecimal digit")?;
+    Ok(u8::try_from(value)?)
 }
 
 // The bytes of a word of digits; '-' stands for none.
@@ -29,17 +29,16 @@ pub(crate) fn octets(heap: Global, word: Option<&str>) -> anyhow::Result<Vec<u8>
     Ok(bytes)
 }
 
-pub(crate) fn number(word: Option<&str>) -> anyhow::Result<u16> {
-    Ok(word.context("a number is missing")?.parse()?)
-}
-
-// A number of 8 bits.
-pub(crate) fn octet(word: Option<&str>) -> anyhow::Result<u8> {
+// A number of the type that is wanted.
+pub(crate) fn number<N: FromStr>(word: Option<&str>) -> anyhow::Result<N>
+where
+    N::Err: Error + Drop,
+{
     Ok(word.context("a number is missing")?.parse()?)
 }
 
 // A buffer of the length that a word says.
 pub(crate) fn buffer(heap: Global, word: Option<&str>) -> anyhow::Result<Vec<u8>> {
-    let length = number(word)?;
+    let length: u16 = number(word)?;
     Ok(vec![in heap; BLANK; length as usize]?)
 }

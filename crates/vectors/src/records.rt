@@ -1,5 +1,5 @@
 use crate::parsing::{buffer, number, octets};
-use anyhow::Context;
+use anyhow::anyhow;
 use std::alloc::Global;
 
 pub(crate) fn read(heap: Global, rest: &str) -> anyhow::Result<String> {
@@ -12,10 +12,11 @@ pub(crate) fn read_padded(heap: Global, rest: &str) -> anyhow::Result<String> {
     let mut words = rest.split(' ');
     let mut text = octets(heap, words.next())?;
     let pad = octets(heap, words.next())?;
-    let length: usize = words.next().context("a length is missing")?.parse()?;
-    for _ in text.len()..length {
-        text.extend_from_slice(pad.as_slice())?;
-    }
+    let length: usize = number(words.next())?;
+    let [pad] = pad.as_slice() else {
+        return Err(anyhow!("no single byte to add"));
+    };
+    text.resize(length.max(text.len()), *pad)?;
     Ok(cases::records::read(heap, text.as_slice())?)
 }
 
