@@ -60,8 +60,8 @@ impl<const LONGEST: usize> Table<LONGEST> {
         &mut self.places[i]
     }
 
-    #[tactic(auto, using(crate::proofs::Queues::from_filled, crate::proofs::Queues::length_from))]
     // Adds a frame, or loses it where all places are taken.
+    #[tactic(auto, using(crate::proofs::Queues::filling))]
     pub(crate) fn store(&mut self, frame: &[u8])
         requires { length frame.now ≤ LONGEST }
         ensures { Stores (view self.old) frame.now (view self.new) }
@@ -73,8 +73,8 @@ impl<const LONGEST: usize> Table<LONGEST> {
         }
     }
 
-    #[tactic(auto, using(crate::proofs::Queues::from_none, crate::proofs::Queues::from_first))]
     // Writes the oldest frame at the front of a buffer, removes it and answers its length.
+    #[tactic(auto, unfolding(crate::specs::Tables::from_place))]
     pub(crate) fn hand_out(&mut self, buffer: &mut [u8]) -> Option<usize>
         requires { LONGEST ≤ length buffer.old }
         ensures { WritesOut (view self.old) buffer.old result (view self.new) buffer.new }
