@@ -30,7 +30,7 @@ fn place_after(place: usize, n: usize) -> usize
 }
 
 impl<const LONGEST: usize> Table<LONGEST> {
-    ghost use Rattle.std.specs.Prelude.{length, nat_lt, slice_set};
+    ghost use Rattle.std.specs.Prelude.{length, slice_set};
     ghost use Rattle.std.specs.Borrow.{sem, follows};
     ghost use Rattle.slots.specs.Tables.{view, blank, Stores, WritesOut};
     ghost use Rattle.slots.specs.contracts.place.Place.{the_row as place_row};
@@ -44,12 +44,6 @@ impl<const LONGEST: usize> Table<LONGEST> {
             head: 0,
             count: 0,
         }
-    }
-
-    fn has_room(&self) -> bool
-        ensures { result ≡ nat_lt self.now.count 8 }
-    {
-        self.count < PLACES
     }
 
     // One place, lent for writing; every other place, and which of them wait, stay.
@@ -66,7 +60,7 @@ impl<const LONGEST: usize> Table<LONGEST> {
         requires { length frame.now ≤ LONGEST }
         ensures { Stores (view self.old) frame.now (view self.new) }
     {
-        if self.has_room() {
+        if self.count < PLACES {
             let next = place_after(self.head, self.count);
             self.place(next).fill(frame);
             self.count += 1;
