@@ -19,7 +19,6 @@ impl SlotLane {
     ghost use Rattle.slots.specs.Tables.{blank};
 
     // A lane in which nothing waits.
-    #[tactic(auto, unfolding(crate::specs::Tables::from_place))]
     pub fn new() -> Self
         ensures empty { in_slots result ≡ [] }
         ensures blank { table_of result ≡ blank }

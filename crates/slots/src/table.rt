@@ -68,7 +68,6 @@ impl<const LONGEST: usize> Table<LONGEST> {
     }
 
     // Writes the oldest frame at the front of a buffer, removes it and answers its length.
-    #[tactic(auto, unfolding(crate::specs::Tables::from_place))]
     pub(crate) fn hand_out(&mut self, buffer: &mut [u8]) -> Option<usize>
         requires { LONGEST ≤ length buffer.old }
         ensures { WritesOut (view self.old) buffer.old result (view self.new) buffer.new }
