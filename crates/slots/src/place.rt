@@ -1,7 +1,7 @@
 ghost use Rattle.std.specs.Prelude.{◌≤◌};
 
-// A place for one frame of at most LONGEST octets: the octets in fixed memory, with their length.
-// It is `Copy` since the array of a table is filled with copies of one empty place.
+// A place for one frame of at most LONGEST octets.
+// The octets, with their length, lie in fixed memory; it is `Copy`, so that a table is filled with empty places.
 #[derive(Clone, Copy)]
 pub(crate) struct Place<const LONGEST: usize> {
     octets: [u8; LONGEST],

@@ -6,8 +6,7 @@ use crate::place::Place;
 const PLACES: usize = 8;
 
 // A table of eight places, in which frames wait in the order of their coming, around its end.
-// The ring is kept here since a put promises to fill one place and to change no other, which a queue's contract does not tell,
-// and since its memory is fixed.
+// Kept by hand, in fixed memory: a put promises to fill one place and to change no other, which no queue's contract tells.
 #[derive(Drop)]
 pub(crate) struct Table<const LONGEST: usize> {
     places: [Place<LONGEST>; PLACES],
