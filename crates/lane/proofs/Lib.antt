@@ -1,5 +1,4 @@
 pub mod Worns
 pub mod Taking
 pub mod Runs
-pub mod Carrying
 pub mod Drops

@@ -1,20 +1,19 @@
 -- runs wear what is put
-use Rattle.std.proofs.Common.{List, [], ◌∷◌, ◌++◌, sym, refl}
+use Rattle.std.proofs.Common.{List, [], ◌∷◌, ◌++◌}
 use Rattle.std.proofs.lemmas.List.{append_assoc, append-nil}
 use Rattle.lane.specs.Runs.{begun, put, nothing_yet, take, RunsWear}
 use Rattle.lane.specs.Worn.{Worn}
-use Rattle.lane.proofs.Worns.{Worn_same, Worn_trans, Worn-append, Worn_along}
+use Rattle.lane.proofs.Worns.{Worn_same, Worn_trans, Worn-append}
 
 -- one run, and then another: the lists that wait, what is put and what is taken
 pub Worn_then : {X : Type 0} (xs ys zs ps qs ts us : List X) → Worn (xs ++ ps) (ts ++ ys) → Worn (ys ++ qs) (us ++ zs)
     → Worn (xs ++ (ps ++ qs)) ((ts ++ us) ++ zs)
 Worn_then xs ys zs ps qs ts us w v =
-    Worn_along (append_assoc xs ps qs) (sym (append_assoc ts us zs))
-    (Worn_trans (Worn_along refl (append_assoc ts ys qs) (Worn-append w (Worn_same qs))) (Worn-append (Worn_same ts) v))
+    simp append_assoc (Worn_trans (simp append_assoc at (Worn-append w (Worn_same qs))) (Worn-append (Worn_same ts) v))
 
 -- a take alone
 unput : {X : Type 0} (old : List X) {new : List X} → Worn old new → Worn (old ++ []) new
-unput old w = Worn_along (sym (append-nil old)) refl w
+unput old w = simp append-nil w
 
 pub runs_wear : RunsWear
 runs_wear old puts taken new begun = unput old (Worn_same old)

@@ -1,19 +1,10 @@
 -- the laws of worn copies
-use Rattle.std.proofs.Common.{◌≡◌, List, [], ◌∷◌, ◌++◌, refl, subst}
-use Rattle.std.specs.List.{AllByRecursion}
+use Rattle.std.proofs.Common.{◌≡◌, List, [], ◌∷◌, ◌++◌, subst}
 use Rattle.lane.specs.Worn.{Worn, done, skip, copy}
 
 pub Worn_same : {X : Type 0} (xs : List X) → Worn xs xs
 Worn_same [] = done
 Worn_same (x ∷ xs) = copy (skip (Worn_same xs))
-
-pub Worn_none : {X : Type 0} {ys : List X} → Worn [] ys → ys ≡ []
-Worn_none done = refl
-
--- what is left once the first of a worn copy is taken
-pub Worn_tail : {X : Type 0} {y : X} {xs ys : List X} → Worn xs (y ∷ ys) → Worn xs ys
-Worn_tail (skip w) = skip (Worn_tail w)
-Worn_tail (copy w) = w
 
 pub Worn_trans : {X : Type 0} {xs ys zs : List X} → Worn xs ys → Worn ys zs → Worn xs zs
 Worn_trans done v = v
@@ -31,12 +22,6 @@ Worn-append (copy w) v = copy (Worn-append w v)
 pub Worn_lost : {X : Type 0} (xs : List X) (x : X) → Worn (xs ++ x ∷ []) xs
 Worn_lost [] x = skip done
 Worn_lost (y ∷ xs) x = copy (skip (Worn_lost xs x))
-
--- what holds of each element holds of each of a worn copy
-pub Worn_all : {X : Type 0} (P : X → Type 0) {xs ys : List X} → Worn xs ys → AllByRecursion P xs → AllByRecursion P ys
-Worn_all P done a = tt
-Worn_all P (skip w) a = Worn_all P w a.1
-Worn_all P (copy w) a = (a.0, Worn_all P w a)
 
 -- the same of equal lists
 pub Worn_along : {X : Type 0} {xs xs' ys ys' : List X} → xs ≡ xs' → ys ≡ ys' → Worn xs ys → Worn xs' ys'

@@ -1,5 +1,6 @@
 -- the frames that a lane carries, by their length
-use Rattle.std.specs.Prelude.{◌≡◌, ℕ, Bool, true, ◌&&◌, List, [], ◌∷◌, length, nat_le}
+use Rattle.std.specs.Prelude.{◌≡◌, ℕ, Bool, true, ◌&&◌, List, length, nat_le}
+use Rattle.std.specs.List.{list_all}
 
 -- 2 to 269 octets
 abbrev pub is_carried : ℕ → Bool
@@ -9,5 +10,4 @@ abbrev pub Carried : List ℕ → Type 0
 Carried f = is_carried (length f) ≡ true
 
 abbrev pub all_carried : List (List ℕ) → Bool
-all_carried [] = true
-all_carried (f ∷ fs) = is_carried (length f) && all_carried fs
+all_carried fs = list_all (λ f. is_carried (length f)) fs

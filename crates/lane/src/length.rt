@@ -10,7 +10,7 @@ pub const MAX_FRAME: usize = 269;
 pub fn carries(length: usize) -> bool
     ensures { result ≡ is_carried length }
 {
-    MIN_FRAME <= length && length <= MAX_FRAME
+    (MIN_FRAME..=MAX_FRAME).contains(&length)
 }
 
 // Whether a buffer of this length holds every frame that a lane carries.

@@ -7,6 +7,7 @@ use crate::length::MAX_FRAME;
 use refusal::UnsoundFrame;
 
 // Puts a frame on a lane, and takes from it once.
+#[tactic(auto, using(crate::proofs::Runs::runs_wear, crate::proofs::Worns::Worn_trans))]
 pub fn put_then_take<L: Lane>(
     lane: &mut L,
     frame: &[u8],
@@ -17,8 +18,5 @@ pub fn put_then_take<L: Lane>(
     ensures runs { RunsWear }
 {
     lane.put(frame)?;
-    match lane.take(buffer) {
-        Ok(taken) => Ok(taken),
-        Err(_) => unreachable(),
-    }
+    Ok(lane.take(buffer).unwrap())
 }

@@ -16,7 +16,7 @@ abbrev pub view : {n : ℕ} → Table n → View
 view t = record { places = map frame_of t.places; head = t.head; count = t.count }
 
 -- n frames from place h on, around the table's end
-unfoldable pub from_place : List (List ℕ) → ℕ → ℕ → List (List ℕ)
+abbrev pub from_place : List (List ℕ) → ℕ → ℕ → List (List ℕ)
 from_place fs h zero = []
 from_place fs h (suc n) = slice_index_or fs (h % 8) [] ∷ from_place fs (suc h) n
 

@@ -1,14 +1,12 @@
-ghost use Rattle.std.specs.Prelude.{◌<◌, ◌≤◌};
+ghost use Rattle.std.specs.Prelude.{◌≡◌, ◌+◌, ◌%◌, ◌<◌, ◌≤◌};
 
 use crate::place::Place;
-
-mod lending;
-mod queue;
 
 // The places of a table.
 const PLACES: usize = 8;
 
 // A table of eight places, in which frames wait in the order of their coming, around its end.
+// Kept by hand, in fixed memory: a put promises to fill one place and to change no other, which no queue's contract tells.
 #[derive(Drop)]
 pub(crate) struct Table<const LONGEST: usize> {
     places: [Place<LONGEST>; PLACES],
@@ -18,4 +16,67 @@ pub(crate) struct Table<const LONGEST: usize> {
     count: usize,
     ghost at: { head < 8 },
     ghost few: { count ≤ 8 },
+}
+
+// The place that is n places after this one, around the table's end.
+fn place_after(place: usize, n: usize) -> usize
+    requires place { place < 8 }
+    requires n { n ≤ 8 }
+    ensures place { result ≡ (place + n) % 8 }
+    ensures within { result < 8 }
+{
+    (place + n) % PLACES
+}
+
+impl<const LONGEST: usize> Table<LONGEST> {
+    ghost use Rattle.std.specs.Prelude.{length, slice_set};
+    ghost use Rattle.std.specs.Borrow.{sem, follows};
+    ghost use Rattle.slots.specs.Tables.{view, blank, Stores, WritesOut};
+    ghost use Rattle.slots.specs.contracts.place.Place.{the_row as place_row};
+    ghost use Rattle.slots.specs.contracts.table.Table.{the_row};
+
+    pub(crate) fn new() -> Self
+        ensures { view result ≡ blank }
+    {
+        Table {
+            places: [Place::empty(); PLACES],
+            head: 0,
+            count: 0,
+        }
+    }
+
+    // One place, lent for writing; every other place, and which of them wait, stay.
+    fn place(&mut self, i: usize) -> &mut Place<LONGEST>
+        requires { i < 8 }
+        ensures* { sem 𝓛 (follows (the_row LONGEST.row) (place_row LONGEST.row) self.entry.ghost_name result.ghost_name (λ w. record self.old { places = slice_set self.old.places i w })) }
+    {
+        &mut self.places[i]
+    }
+
+    // Adds a frame, or loses it where all places are taken.
+    #[tactic(auto, using(crate::proofs::Queues::filling))]
+    pub(crate) fn store(&mut self, frame: &[u8])
+        requires { length frame.now ≤ LONGEST }
+        ensures { Stores (view self.old) frame.now (view self.new) }
+    {
+        if self.count < PLACES {
+            let next = place_after(self.head, self.count);
+            self.place(next).fill(frame);
+            self.count += 1;
+        }
+    }
+
+    // Writes the oldest frame at the front of a buffer, removes it and answers its length.
+    pub(crate) fn hand_out(&mut self, buffer: &mut [u8]) -> Option<usize>
+        requires { LONGEST ≤ length buffer.old }
+        ensures { WritesOut (view self.old) buffer.old result (view self.new) buffer.new }
+    {
+        if self.count == 0 {
+            return None;
+        }
+        let len = self.places[self.head].write_to(buffer);
+        self.head = place_after(self.head, 1);
+        self.count -= 1;
+        Some(len)
+    }
 }
