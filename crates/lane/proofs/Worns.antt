@@ -1,5 +1,6 @@
 -- the laws of worn copies
 use Rattle.std.proofs.Common.{◌≡◌, List, [], ◌∷◌, ◌++◌, subst}
+use Rattle.std.specs.List.{AllByRecursion}
 use Rattle.lane.specs.Worn.{Worn, done, skip, copy}
 
 pub Worn_same : {X : Type 0} (xs : List X) → Worn xs xs
@@ -22,6 +23,12 @@ Worn-append (copy w) v = copy (Worn-append w v)
 pub Worn_lost : {X : Type 0} (xs : List X) (x : X) → Worn (xs ++ x ∷ []) xs
 Worn_lost [] x = skip done
 Worn_lost (y ∷ xs) x = copy (skip (Worn_lost xs x))
+
+-- what holds of each element holds of each of a worn copy
+pub Worn_all : {X : Type 0} (P : X → Type 0) {xs ys : List X} → Worn xs ys → AllByRecursion P xs → AllByRecursion P ys
+Worn_all P done a = tt
+Worn_all P (skip w) a = Worn_all P w a.1
+Worn_all P (copy w) a = (a.0, Worn_all P w a)
 
 -- the same of equal lists
 pub Worn_along : {X : Type 0} {xs xs' ys ys' : List X} → xs ≡ xs' → ys ≡ ys' → Worn xs ys → Worn xs' ys'
