@@ -3,6 +3,7 @@ use Rattle.std.proofs.Common.{◌≡◌, ℕ, suc, ◌+◌, ◌*◌, ◌/◌, �
 use Rattle.std.proofs.lemmas.List.{length-append, length-take-le, take_at, take_more, take_all, nil_from_length}
 use Rattle.std.proofs.lemmas.Bool.{and_from, eq-eqb, le-leb, lt-ltb}
 use Rattle.std.proofs.lemmas.Bool.Decides.{nat_tests}
+use Rattle.std.proofs.lemmas.List.Folds.{list_all-append}
 use Rattle.refusal.specs.Answers.{then, answer}
 use Rattle.ihex.specs.Content.{Content, data_at, end_of_file, fields, line, sum_byte, Sound}
 use Rattle.ihex.specs.Digits.{all_digits, digits, bytes_of, octets, total}
@@ -12,7 +13,7 @@ use Rattle.ihex.specs.Reading.{digits_in, counted, summed, record_of, record_in,
 use Rattle.ihex.specs.declared.fault.RecordFault.{RecordFault}
 use Rattle.ihex.specs.declared.record.Record.{Record}
 use Rattle.ihex.specs.declared.record.Record.TheVariants.{Data, End}
-use Rattle.ihex.proofs.Octets.{octets-append, octets_at, octets-take}
+use Rattle.ihex.proofs.Octets.{octet, octets_at, octets-take}
 use Rattle.ihex.proofs.ReadSteps.{digits_found, count_good, reading_summed}
 use Rattle.ihex.proofs.Spelling.{length-digits, digits_are_digits, length-bytes, bytes_are_octets, bytes-digits, digits-bytes}
 use Rattle.ihex.proofs.Totals.{total-append, sum_byte_closes, sum_byte_alone}
@@ -36,7 +37,7 @@ line_octets (data_at offset ds) (ho, some, few, hd) =
     let f3 : offset % 256 < 256 = omega arith in
     let f4 : s < 256 = omega arith in
     let hs : octets (s ∷ []) ≡ true = and_from _ _ (lt-ltb s 256 f4) refl in
-    and_from _ _ (lt-ltb (length ds) 256 f1) (and_from _ _ (lt-ltb (offset / 256) 256 f2) (and_from _ _ (lt-ltb (offset % 256) 256 f3) (octets-append ds (s ∷ []) hd hs)))
+    and_from _ _ (lt-ltb (length ds) 256 f1) (and_from _ _ (lt-ltb (offset / 256) 256 f2) (and_from _ _ (lt-ltb (offset % 256) 256 f3) (list_all-append octet ds (s ∷ []) ∙ and_from _ _ hd hs)))
 
 -- after its colon a line has only digits
 pub line_digits : (r : Content) → Sound r → all_digits (drop 1 (line r)) ≡ true
@@ -149,9 +150,9 @@ shaped (a ∷ b ∷ c ∷ d ∷ R) n r hY l e z h =
     let full : R ≡ D ++ s ∷ [] = sym (take_all (n + 1) R (omega arith)) ∙ take_more R n 0 (omega arith) in
     let lD : length D ≡ n = omega (arith, ap length full, length-append D (s ∷ [])) in
     let F : a ∷ b ∷ c ∷ d ∷ D ≡ fields r =
-    ap (λ x. x ∷ b ∷ c ∷ d ∷ D) e ∙ told_fields n b c d D r (octets_at Y 1 hY) (octets_at Y 2 hY) lD h in
+    ap (λ x. x ∷ b ∷ c ∷ d ∷ D) e ∙ told_fields n b c d D r (octets_at Y 1 hY (omega arith)) (octets_at Y 2 hY (omega arith)) lD h in
     let Ye : Y ≡ (a ∷ b ∷ c ∷ d ∷ D) ++ s ∷ [] = ap (λ xs. a ∷ b ∷ c ∷ d ∷ xs) full in
-    let fs : s < 256 = octets_at Y (suc (suc (suc (suc n)))) hY in
+    let fs : s < 256 = octets_at Y (suc (suc (suc (suc n)))) hY (omega arith) in
     let zero : (total (fields r) + s) % 256 ≡ 0 =
     omega (arith, z, ap total Ye, total-append (a ∷ b ∷ c ∷ d ∷ D) (s ∷ []), ap total F) in
     Ye ∙ ap₂ (λ xs x. xs ++ x ∷ []) F (sum_byte_alone (fields r) s fs zero)

@@ -1,22 +1,12 @@
-use Rattle.std.proofs.Common.{length, sym}
 use Rattle.ihex.proofs.Octets.{octets_from}
-use Rattle.ihex.proofs.Stored.{size_told, room, narrow, made_data}
+use Rattle.ihex.proofs.Stored.{room, narrow}
+use Rattle.std.proofs.Common.{arith}
+use Rattle.std.proofs.lemmas.Bool.Decides.{nat_tests}
 use Rattle.ihex.proofs.data_record.DataRecord.new.Goals as goal
 
-pub invariant_of-result : goal.invariant_of-result
-invariant_of-result c =
-    let ds = c.args.data.now in
-    let size = size_told (length ds) (sym c.if-not-has_data.ensures) in
-    let e = c.copy_from_slice.ensures.after in
-    record {
-      fits = c.ranges.offset.fits;
-      some = size.0;
-      few = size.1;
-      room = room ds _ size.1 e;
-      narrow = narrow ds _ (octets_from ds (λ i. (c.type_inv.data i).fits)) e;
-    }
+pub invariant_of-result-clause-room : goal.invariant_of-result-clause-room
+invariant_of-result-clause-room c = room c.args.data.now _ c.copy_from_slice.ensures.after (grind (arith, nat_tests, c.if-not-has_data.ensures))
 
-pub returns : goal.returns
-returns c =
-    let ds = c.args.data.now in
-    made_data c.args.offset ds _ (sym c.if-not-has_data.ensures) c.copy_from_slice.ensures.after
+pub invariant_of-result-clause-narrow : goal.invariant_of-result-clause-narrow
+invariant_of-result-clause-narrow c =
+    narrow c.args.data.now _ c.copy_from_slice.ensures.after (octets_from c.args.data.now (λ i. (c.type_inv.data i).fits))
