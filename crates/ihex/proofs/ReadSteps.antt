@@ -8,29 +8,12 @@ use Rattle.ihex.specs.Digits.{bytes_of, total, all_digits}
 use Rattle.ihex.specs.Reading.{digits_in, is_counted, counted, summed, record_in, reading}
 use Rattle.ihex.specs.declared.fault.RecordFault.TheVariants.{Count, Sum}
 
--- one element more is copied
-pub copied_more : (xs o : List ℕ) (i : ℕ) → i < length xs → i < length o
-    → set (take i xs ++ drop i o) i (get_or xs i 0) ≡ take (i + 1) xs ++ drop (i + 1) o
-copied_more xs o i lx lo =
-    let x : ℕ = get_or xs i 0 in
-    ap (λ z. set (take i xs ++ z) i x) (drop_more o i 0 lo)
-    ∙ set_at (take i xs) (get_or o i 0) (drop (i + 1) o) x i (length-take-le i xs (omega arith))
-    ∙ sym (append_assoc (take i xs) (x ∷ []) (drop (i + 1) o))
-    ∙ ap (λ p. p ++ drop (i + 1) o) (sym (take_more xs i 0 lx))
-
 -- each answer of the checks
 pub digits_found : (t : List ℕ) → 11 ≤ length t → get_or t 0 0 ≡ 58 → all_digits (drop 1 t) ≡ true → digits_in t ≡ Ok (drop 1 t)
 digits_found t l c h = grind (arith, nat_tests)
 
-pub count_told : (n digits : ℕ) → is_counted n digits ≡ true → (n ≤ 128) × (digits ≡ 10 + 2 * n)
-count_told n digits h = (grind (arith, nat_tests), grind (arith, nat_tests))
-
-module _ (ds : List ℕ) (n : ℕ) (e : get_or (bytes_of ds) 0 0 ≡ n) where
-  pub count_bad : is_counted n (length ds) ≡ false → counted ds ≡ Err Count
-  count_bad h = cond-true _ _ _ (ap (λ k. not (is_counted k (length ds))) e ∙ ap not h)
-
-  pub count_good : is_counted n (length ds) ≡ true → counted ds ≡ Ok n
-  count_good h = cond-false _ _ _ (ap (λ k. not (is_counted k (length ds))) e ∙ ap not h) ∙ ap Ok e
+pub count_good : (ds : List ℕ) (n : ℕ) → get_or (bytes_of ds) 0 0 ≡ n → is_counted n (length ds) ≡ true → counted ds ≡ Ok n
+count_good ds n e h = cond-false _ _ _ (ap (λ k. not (is_counted k (length ds))) e ∙ ap not h) ∙ ap Ok e
 
 sum_good : (bs : List ℕ) → total bs % 256 ≡ 0 → summed bs ≡ Ok bs
 sum_good bs h = grind (arith, nat_tests)

@@ -1,5 +1,7 @@
 -- what a buffer holds while a line is written to its front
 use Rattle.std.proofs.Common.{◌≡◌, ℕ, ◌+◌, ◌*◌, ◌<◌, ◌≤◌, List, [], ◌∷◌, ◌++◌, length, take, drop, set, Ok, Err, sym, refl, ap, ◌∙◌, ap₂, arith}
+use lib.Seq.{paste}
+use Rattle.std.proofs.lemmas.List.Edits.{paste-paste, paste_all}
 use Rattle.std.proofs.lemmas.List.{append_assoc, length-append, length-take-le, take-append-drop, take_at, drop_at, drop-drop, length-set}
 use Rattle.std.proofs.lemmas.Bool.Decides.{nat_tests}
 use Rattle.std.proofs.lemmas.Grind.{common_steps}
@@ -12,21 +14,14 @@ use Rattle.ihex.proofs.Spelling.{digits-append, length-digits}
 pub spelled_more : (o xs ys : List ℕ) (at n : ℕ) → at ≤ length o → n ≡ at + 2 * length xs
     → spelled (spelled o at xs) n ys ≡ spelled o at (xs ++ ys)
 spelled_more o xs ys at n fits e =
-    let P : List ℕ = take at o ++ digits xs in
-    let Q : List ℕ = drop (at + 2 * length xs) o in
-    let k : ℕ = 2 * length ys in
-    let size : length P ≡ n = omega (arith, length-append (take at o) (digits xs), length-take-le at o fits, length-digits xs) in
-    let rest : drop (n + k) (P ++ Q) ≡ drop (at + 2 * length (xs ++ ys)) o =
-    sym (drop-drop k n (P ++ Q)) ∙ ap (drop k) (drop_at P Q n size) ∙ drop-drop k _ o
-    ∙ ap (λ j. drop j o) (omega (arith, length-append xs ys)) in
-    let front : spelled o at xs ≡ P ++ Q = sym (append_assoc (take at o) (digits xs) Q) in
-    let text : digits (xs ++ ys) ≡ digits xs ++ digits ys = digits-append xs ys in
-    rw (front, take_at P Q n size, rest, text) (simp append_assoc)
+    ap (λ k. paste (spelled o at xs) k (digits ys) (2 * length ys)) e
+    ∙ paste-paste o at (digits xs) (digits ys) _ _ (sym (length-digits xs)) (sym (length-digits ys)) fits
+    ∙ ap₂ (paste o at) (sym (digits-append xs ys)) (omega (arith, length-append xs ys))
 
 -- the colon, and then the digits of some bytes
 begun : (o bs : List ℕ) → 1 ≤ length o → spelled (set o 0 58) 1 bs ≡ (58 ∷ digits bs) ++ drop (1 + 2 * length bs) o
 begun [] bs l = absurd (omega arith)
-begun (x ∷ o) bs l = grind (arith, common_steps)
+begun (x ∷ o) bs l = paste_all (58 ∷ o) 1 (digits bs) _ (sym (length-digits bs)) ∙ grind (arith, common_steps)
 
 pub length-line : (r : Content) → length (line r) ≡ 3 + 2 * length (fields r)
 length-line r =

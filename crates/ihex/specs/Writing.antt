@@ -1,5 +1,6 @@
 -- writing a line to the front of a buffer
-use Rattle.std.specs.Prelude.{ℕ, ◌+◌, ◌*◌, cond, List, ◌++◌, length, take, drop, Ok, Result, nat_lt}
+use Rattle.std.specs.Prelude.{ℕ, ◌*◌, cond, List, ◌++◌, length, drop, Ok, Result, nat_lt}
+use lib.Seq.{paste}
 use Rattle.refusal.specs.Answers.{refuse}
 use Rattle.ihex.specs.Content.{Content, line}
 use Rattle.ihex.specs.Digits.{digits}
@@ -7,7 +8,7 @@ use Rattle.refusal.specs.declared.BufferTooShort.{BufferTooShort}
 
 -- a buffer once the digits of some bytes stand in it from a place on
 abbrev pub spelled : List ℕ → ℕ → List ℕ → List ℕ
-spelled out at bs = take at out ++ (digits bs ++ drop (at + 2 * length bs) out)
+spelled out at bs = paste out at (digits bs) (2 * length bs)
 
 -- the length of what is written, if the buffer holds it
 abbrev pub written : Content → List ℕ → Result ℕ BufferTooShort

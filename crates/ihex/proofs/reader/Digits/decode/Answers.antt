@@ -1,7 +1,9 @@
 use Rattle.std.proofs.Common.{◌≡◌, ◌/◌, ◌%◌, ◌<◌, ◌++◌, [], length, get_or, take, drop, set, sym, ap, ◌∙◌, ap₂, arith}
+use Rattle.std.proofs.Common.{zero-add}
 use Rattle.std.proofs.lemmas.List.{take_all}
+use Rattle.std.proofs.lemmas.List.Edits.{paste_more}
+use Rattle.std.proofs.lemmas.Grind.{common_steps}
 use Rattle.ihex.specs.Digits.{bytes_of, total}
-use Rattle.ihex.proofs.ReadSteps.{copied_more}
 use Rattle.ihex.proofs.Spelling.{IsPair, pair_at, length-bytes}
 use Rattle.ihex.proofs.Totals.{total_more}
 use Rattle.ihex.proofs.reader.Digits.decode.Goals as goal
@@ -25,16 +27,11 @@ loop-i-preserved c =
     let l : i < length bs = omega (arith, length-bytes c.args.self.now.text.now) in
     record {
       sum = omega (arith, total_more 0 i bs l);
-      out = ap₂ (λ o x. set o i x) c.loop-i.invariant.out b ∙ copied_more bs c.args.out.now i l (omega arith);
+      out = ap₂ (λ o x. set o i x) c.loop-i.invariant.out b ∙ simp zero-add at (paste_more c.args.out.now 0 bs i 0 (omega arith) l);
     }
 
-pub returns : goal.returns
-returns c =
-    let t = c.args.self.now.text.now in
-    let i = c.loop-i.i in
-    let n : i ≡ length t / 2 = omega arith in
-    let e : take i (bytes_of t) ≡ bytes_of t = take_all i _ (omega (arith, length-bytes t)) in
-    record {
-      sum = c.loop-i.invariant.sum ∙ ap (λ xs. total xs % 256) e;
-      out = c.loop-i.invariant.out ∙ ap₂ (λ xs k. xs ++ drop k c.args.out.now) e n;
-    }
+pub returns-clause-sum : goal.returns-clause-sum
+returns-clause-sum c = grind (arith, common_steps, length-bytes)
+
+pub returns-clause-out : goal.returns-clause-out
+returns-clause-out c = grind (arith, common_steps, length-bytes)
