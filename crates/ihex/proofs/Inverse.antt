@@ -1,7 +1,6 @@
 -- reading and writing are each other's inverse
-use Rattle.std.proofs.Common.{◌≡◌, ℕ, suc, ◌+◌, ◌*◌, ◌/◌, ◌%◌, ◌<◌, ◌≤◌, true, List, [], ◌∷◌, ◌++◌, length, get_or, take, drop, Ok, Err, Result, sym, refl, ap, ◌∙◌, ap₂, arith}
+use Rattle.std.proofs.Common.{◌≡◌, ℕ, suc, ◌+◌, ◌*◌, ◌%◌, ◌<◌, ◌≤◌, true, List, [], ◌∷◌, ◌++◌, length, get_or, take, drop, Ok, Err, Result, sym, refl, ap, ◌∙◌, ap₂, arith}
 use Rattle.std.proofs.lemmas.List.{length-append, length-take-le, take_at, take_more, take_all, nil_from_length}
-use Rattle.std.proofs.lemmas.Bool.{and_from, eq-eqb, le-leb, lt-ltb}
 use Rattle.std.proofs.lemmas.Bool.Decides.{nat_tests}
 use Rattle.std.proofs.lemmas.List.Folds.{list_all-append}
 use Rattle.refusal.specs.Answers.{then, answer}
@@ -13,7 +12,7 @@ use Rattle.ihex.specs.Reading.{digits_in, counted, summed, record_of, record_in,
 use Rattle.ihex.specs.declared.fault.RecordFault.{RecordFault}
 use Rattle.ihex.specs.declared.record.Record.{Record}
 use Rattle.ihex.specs.declared.record.Record.TheVariants.{Data, End}
-use Rattle.ihex.proofs.Octets.{octet, octets_at, octets-take}
+use Rattle.ihex.proofs.Octets.{octets_at, octets-take}
 use Rattle.ihex.proofs.ReadSteps.{digits_found, count_good, reading_summed}
 use Rattle.ihex.proofs.Spelling.{length-digits, digits_are_digits, length-bytes, bytes_are_octets, bytes-digits, digits-bytes}
 use Rattle.ihex.proofs.Totals.{total-append, sum_byte_closes, sum_byte_alone}
@@ -50,7 +49,7 @@ reads_back (data_at offset ds) h =
     let t : take (length ds) (drop 4 X) ≡ ds = take_at ds (s ∷ []) (length ds) refl in
     reading_summed (line r) (digits X) (length ds)
     (digits_found (line r) (omega arith) refl (line_digits r h))
-    (count_good (digits X) (length ds) b0 (and_from _ _ (le-leb (length ds) 128 h.2) (eq-eqb _ _ ld)))
+    (count_good (digits X) (length ds) b0 h.2 ld)
     (ap (λ xs. total xs % 256) b ∙ sum_byte_closes (fields r))
     ∙ ap (record_in (length ds)) b
     ∙ ap₂ (λ k xs. record_of (length ds) k 0 xs) o t

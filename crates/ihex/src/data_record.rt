@@ -1,5 +1,4 @@
 ghost use Rattle.std.specs.Prelude.{◌≡◌, ◌^◌, ◌<◌, ◌≤◌, true, length};
-ghost use Rattle.ihex.specs.Content.{is_data};
 ghost use Rattle.ihex.specs.Digits.{octets};
 
 use crate::fault::RecordFault;
@@ -21,13 +20,6 @@ pub struct DataRecord {
     ghost narrow: { octets bytes ≡ true },
 }
 
-// Whether a data record has this many bytes.
-fn has_data(len: usize) -> bool
-    ensures { result ≡ is_data len }
-{
-    1 <= len && len <= MAX_DATA
-}
-
 impl DataRecord {
     ghost use Rattle.refusal.specs.Answers.{answer};
     ghost use Rattle.ihex.specs.Meaning.{data_content, data_of};
@@ -38,7 +30,7 @@ impl DataRecord {
         ensures { answer data_content result ≡ data_record offset «data».now }
     {
         let len = data.len();
-        if !has_data(len) {
+        if !(1..=MAX_DATA).contains(&len) {
             return Err(RecordFault::Unknown);
         }
         let mut bytes = [0; MAX_DATA];

@@ -5,19 +5,12 @@ ghost use Rattle.refusal.specs.Answers.{answer};
 ghost use Rattle.ihex.specs.Digits.{all_digits, bytes_of, total};
 ghost use Rattle.ihex.specs.Laws.{Canonical};
 ghost use Rattle.ihex.specs.Meaning.{content};
-ghost use Rattle.ihex.specs.Reading.{digits_in, is_counted, counted, record_in, reading};
+ghost use Rattle.ihex.specs.Reading.{digits_in, counted, record_in, reading};
 
 use crate::data_record::{DataRecord, MAX_DATA};
 use crate::digits::{are_digits, byte_of};
 use crate::fault::RecordFault;
 use crate::record::{Record, RecordType};
-
-// Whether a line with this count has this many digits.
-fn is_count(count: usize, digits: usize) -> bool
-    ensures { result ≡ is_counted count digits }
-{
-    count <= MAX_DATA && digits == Record::SHORTEST - 1 + 2 * count
-}
 
 // The digits of a line: all upper case, and at least two for each of the five bytes of every record.
 #[derive(Clone, Copy)]
@@ -51,7 +44,7 @@ impl<'a> Digits<'a> {
         ensures long { IfOk result (λ n. length self.now.text.now ≡ 10 + 2 * n) }
     {
         let count = byte_of(self.text[0], self.text[1]) as usize;
-        if !is_count(count, self.text.len()) {
+        if count > MAX_DATA || self.text.len() != Record::SHORTEST - 1 + 2 * count {
             return Err(RecordFault::Count);
         }
         Ok(count)
@@ -81,7 +74,7 @@ fn find_record(count: usize, bytes: &[u8]) -> Result<Record, RecordFault>
 {
     let offset = u16::from_be_bytes([bytes[1], bytes[2]]);
     match RecordType::try_from(bytes[3])? {
-        RecordType::Data => Ok(Record::Data(DataRecord::new(offset, &bytes[4..4 + count])?)),
+        RecordType::Data => DataRecord::new(offset, &bytes[4..4 + count]).map(Record::Data),
         RecordType::EndOfFile if count == 0 && offset == 0 => Ok(Record::End),
         RecordType::EndOfFile => Err(RecordFault::Unknown),
     }

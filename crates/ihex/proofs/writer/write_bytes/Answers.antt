@@ -1,4 +1,4 @@
-use Rattle.std.proofs.Common.{◌+◌, ◌*◌, ◌%◌, [], ◌∷◌, get_or, take, sym, ap, ◌∙◌, arith}
+use Rattle.std.proofs.Common.{◌+◌, ◌*◌, [], ◌∷◌, get_or, take, sym, ap, ◌∙◌, arith}
 use Rattle.std.proofs.lemmas.List.{take_more, length-take-le}
 use Rattle.ihex.specs.Writing.{spelled}
 use Rattle.ihex.proofs.Totals.{total_more}
@@ -12,7 +12,7 @@ loop-i-preserved c =
     let i = c.loop-i.i in
     let at = c.args.at in
     record {
-      sum = c.write_byte-sum.ensures.sum ∙ ap (λ t. (t + get_or bs i 0) % 256) c.loop-i.invariant.sum ∙ total_more c.args.start i bs (omega arith);
+      sum = omega (arith, total_more c.args.start i bs (omega arith));
       out = c.write_byte-sum.ensures.out
           ∙ ap (λ z. spelled z (at + 2 * i) (get_or bs i 0 ∷ [])) c.loop-i.invariant.out
           ∙ spelled_more o (take i bs) (get_or bs i 0 ∷ []) at _ (omega arith) (omega (arith, length-take-le i bs (omega arith)))

@@ -1,9 +1,7 @@
-use Rattle.std.proofs.Common.{◌≡◌, ◌/◌, ◌%◌, ◌<◌, ◌++◌, [], length, get_or, take, drop, set, sym, ap, ◌∙◌, ap₂, arith}
-use Rattle.std.proofs.Common.{zero-add}
-use Rattle.std.proofs.lemmas.List.{take_all}
+use Rattle.std.proofs.Common.{◌≡◌, ◌<◌, [], length, get_or, set, sym, ◌∙◌, ap₂, zero-add, arith}
 use Rattle.std.proofs.lemmas.List.Edits.{paste_more}
 use Rattle.std.proofs.lemmas.Grind.{common_steps}
-use Rattle.ihex.specs.Digits.{bytes_of, total}
+use Rattle.ihex.specs.Digits.{bytes_of}
 use Rattle.ihex.proofs.Spelling.{IsPair, pair_at, length-bytes}
 use Rattle.ihex.proofs.Totals.{total_more}
 use Rattle.ihex.proofs.reader.Digits.decode.Goals as goal
