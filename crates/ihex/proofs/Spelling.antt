@@ -1,7 +1,6 @@
 -- bytes and their digits
-use Rattle.std.proofs.Common.{◌≡◌, ℕ, zero, suc, ◌+◌, ◌*◌, ◌/◌, ◌%◌, ◌<◌, ◌≤◌, true, List, [], ◌∷◌, ◌++◌, length, get_or, refl, arith}
+use Rattle.std.proofs.Common.{◌≡◌, ℕ, zero, suc, ◌+◌, ◌*◌, ◌/◌, ◌%◌, ◌<◌, ◌≤◌, true, List, [], ◌∷◌, ◌++◌, length, get_or, refl, ap, arith}
 use Rattle.std.specs.Simd.{first_chunks}
-use Rattle.std.proofs.lemmas.List.Concat.{flat_map-append}
 use Rattle.std.proofs.lemmas.Bool.Decides.{nat_tests}
 use Rattle.ihex.specs.Digits.{digit, is_digit, value, all_digits, digits, bytes_of, octets}
 
@@ -20,7 +19,8 @@ value_below c h = grind (arith, nat_tests)
 
 -- digits from bytes
 pub digits-append : (xs ys : List ℕ) → digits (xs ++ ys) ≡ digits xs ++ digits ys
-digits-append xs ys = flat_map-append (λ b. digit (b / 16) ∷ digit (b % 16) ∷ []) xs ys
+digits-append [] ys = refl
+digits-append (x ∷ xs) ys = ap (λ z. digit (x / 16) ∷ digit (x % 16) ∷ z) (digits-append xs ys)
 
 pub length-digits : (xs : List ℕ) → length (digits xs) ≡ 2 * length xs
 length-digits [] = refl

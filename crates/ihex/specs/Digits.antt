@@ -1,6 +1,6 @@
 -- hexadecimal digits, as Intel's object format writes them: upper case, two to a byte, the high one first
 use Rattle.std.specs.Prelude.{ℕ, ◌+◌, ◌-◌, ◌*◌, ◌/◌, ◌%◌, Bool, cond, ◌&&◌, ◌||◌, List, [], ◌∷◌, sum, nat_le, nat_lt}
-use Rattle.std.specs.List.{list_all, flat_map}
+use Rattle.std.specs.List.{list_all}
 
 -- the character of a value below 16
 abbrev pub digit : ℕ → ℕ
@@ -19,7 +19,8 @@ all_digits cs = list_all is_digit cs
 
 -- the digits of some bytes
 abbrev pub digits : List ℕ → List ℕ
-digits bs = flat_map (λ b. digit (b / 16) ∷ digit (b % 16) ∷ []) bs
+digits [] = []
+digits (b ∷ bs) = digit (b / 16) ∷ digit (b % 16) ∷ digits bs
 
 -- the bytes of some digits; an odd last one counts for nothing
 abbrev pub bytes_of : List ℕ → List ℕ
