@@ -6,7 +6,7 @@ use Rattle.ihex.specs.Content.{Content, line}
 use Rattle.ihex.specs.Digits.{digits}
 use Rattle.refusal.specs.declared.BufferTooShort.{BufferTooShort}
 
--- a buffer once the digits of some bytes stand in it from a place on
+-- a buffer once the digits of some bytes stand in it from a place on, and the rest as it was
 abbrev pub spelled : List ℕ → ℕ → List ℕ → List ℕ
 spelled out at bs = paste out at (digits bs) (2 * length bs)
 

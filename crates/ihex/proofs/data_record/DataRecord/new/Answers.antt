@@ -20,7 +20,7 @@ module _ (ds xs : List ℕ) (e : xs ≡ ds) where
 
 pub invariant_of-result-clause-room : goal.invariant_of-result-clause-room
 invariant_of-result-clause-room c =
-    room c.args.data.now _ c.copy_from_slice.ensures.after (grind (arith, nat_tests, c.if-not-contains.ensures))
+    room c.args.data.now _ c.copy_from_slice.ensures.after (grind (arith, nat_tests))
 
 pub invariant_of-result-clause-narrow : goal.invariant_of-result-clause-narrow
 invariant_of-result-clause-narrow c =
