@@ -1,8 +1,8 @@
 -- reading and writing are each other's inverse
-use Rattle.std.proofs.Common.{◌≡◌, ℕ, suc, ◌+◌, ◌*◌, ◌/◌, ◌%◌, ◌<◌, ◌≤◌, true, List, [], ◌∷◌, ◌++◌, length, get_or, take, drop, Ok, Err, Result, sym, refl, ap, ◌∙◌, ap₂, arith}
+use Rattle.std.proofs.Common.{◌≡◌, ℕ, suc, ◌+◌, ◌*◌, ◌%◌, ◌<◌, ◌≤◌, true, List, [], ◌∷◌, ◌++◌, length, get_or, take, drop, Ok, Err, Result, sym, refl, ap, ◌∙◌, ap₂, arith}
 use Rattle.std.proofs.lemmas.List.{length-append, length-take-le, take_at, take_more, take_all, nil_from_length}
-use Rattle.std.proofs.lemmas.Bool.{and_from, eq-eqb, le-leb, lt-ltb}
 use Rattle.std.proofs.lemmas.Bool.Decides.{nat_tests}
+use Rattle.std.proofs.lemmas.List.Folds.{list_all-append}
 use Rattle.refusal.specs.Answers.{then, answer}
 use Rattle.ihex.specs.Content.{Content, data_at, end_of_file, fields, line, sum_byte, Sound}
 use Rattle.ihex.specs.Digits.{all_digits, digits, bytes_of, octets, total}
@@ -12,7 +12,7 @@ use Rattle.ihex.specs.Reading.{digits_in, counted, summed, record_of, record_in,
 use Rattle.ihex.specs.declared.fault.RecordFault.{RecordFault}
 use Rattle.ihex.specs.declared.record.Record.{Record}
 use Rattle.ihex.specs.declared.record.Record.TheVariants.{Data, End}
-use Rattle.ihex.proofs.Octets.{octets-append, octets_at, octets-take}
+use Rattle.ihex.proofs.Octets.{octets_at, octets-take}
 use Rattle.ihex.proofs.ReadSteps.{digits_found, count_good, reading_summed}
 use Rattle.ihex.proofs.Spelling.{length-digits, digits_are_digits, length-bytes, bytes_are_octets, bytes-digits, digits-bytes}
 use Rattle.ihex.proofs.Totals.{total-append, sum_byte_closes, sum_byte_alone}
@@ -29,14 +29,7 @@ data_found n offset ds some few = grind (arith, nat_tests)
 
 line_octets : (r : Content) → Sound r → octets (fields r ++ sum_byte (fields r) ∷ []) ≡ true
 line_octets end_of_file h = refl
-line_octets (data_at offset ds) (ho, some, few, hd) =
-    let s : ℕ = sum_byte (fields (data_at offset ds)) in
-    let f1 : length ds < 256 = omega arith in
-    let f2 : offset / 256 < 256 = omega arith in
-    let f3 : offset % 256 < 256 = omega arith in
-    let f4 : s < 256 = omega arith in
-    let hs : octets (s ∷ []) ≡ true = and_from _ _ (lt-ltb s 256 f4) refl in
-    and_from _ _ (lt-ltb (length ds) 256 f1) (and_from _ _ (lt-ltb (offset / 256) 256 f2) (and_from _ _ (lt-ltb (offset % 256) 256 f3) (octets-append ds (s ∷ []) hd hs)))
+line_octets (data_at offset ds) h = grind (arith, nat_tests, list_all-append)
 
 -- after its colon a line has only digits
 pub line_digits : (r : Content) → Sound r → all_digits (drop 1 (line r)) ≡ true
@@ -56,7 +49,7 @@ reads_back (data_at offset ds) h =
     let t : take (length ds) (drop 4 X) ≡ ds = take_at ds (s ∷ []) (length ds) refl in
     reading_summed (line r) (digits X) (length ds)
     (digits_found (line r) (omega arith) refl (line_digits r h))
-    (count_good (digits X) (length ds) b0 (and_from _ _ (le-leb (length ds) 128 h.2) (eq-eqb _ _ ld)))
+    (count_good (digits X) (length ds) b0 h.2 ld)
     (ap (λ xs. total xs % 256) b ∙ sum_byte_closes (fields r))
     ∙ ap (record_in (length ds)) b
     ∙ ap₂ (λ k xs. record_of (length ds) k 0 xs) o t
@@ -66,74 +59,22 @@ reads_back (data_at offset ds) h =
 then_ok : {X Y : Type 0} (r : Result X RecordFault) (f : X → Result Y RecordFault) (y : Y) → then r f ≡ Ok y
     → (x : X) × (r ≡ Ok x) × (f x ≡ Ok y)
 then_ok (Ok x) f y h = (x, refl, h)
-then_ok {X} {Y} (Err e) f y h = let z : ◌≡◌ {A = ℕ} 0 1 = cc in absurd (omega arith)
+then_ok {X} {Y} (Err e) f y h = let z : ⊥ = cc in absurd z
 
-module _ (t ds : List ℕ) (h : digits_in t ≡ Ok ds) where
-  told_long : 11 ≤ length t
-  told_long = grind (arith, nat_tests)
+digits_told : (t ds : List ℕ) → digits_in t ≡ Ok ds → (11 ≤ length t) × (get_or t 0 0 ≡ 58) × (all_digits ds ≡ true) × (ds ≡ drop 1 t)
+digits_told t ds h = (grind (arith, nat_tests), grind (arith, nat_tests), grind (arith, nat_tests), grind (arith, nat_tests))
 
-  told_colon : get_or t 0 0 ≡ 58
-  told_colon = grind (arith, nat_tests)
+count_told : (ds : List ℕ) (n : ℕ) → counted ds ≡ Ok n → (get_or (bytes_of ds) 0 0 ≡ n) × (length ds ≡ 10 + 2 * n)
+count_told ds n h = (grind (arith, nat_tests), grind (arith, nat_tests))
 
-  told_digits : all_digits (drop 1 t) ≡ true
-  told_digits = grind (arith, nat_tests)
-
-  told_rest : ds ≡ drop 1 t
-  told_rest = grind (arith, nat_tests)
-
-module _ (ds : List ℕ) (n : ℕ) (h : counted ds ≡ Ok n) where
-  told_count : get_or (bytes_of ds) 0 0 ≡ n
-  told_count = grind (arith, nat_tests)
-
-  told_length : length ds ≡ 10 + 2 * get_or (bytes_of ds) 0 0
-  told_length = grind (arith, nat_tests)
-
-module _ (bs xs : List ℕ) (h : summed bs ≡ Ok xs) where
-  told_total : total bs % 256 ≡ 0
-  told_total = grind (arith, nat_tests)
-
-  told_bytes : bs ≡ xs
-  told_bytes = grind (arith, nat_tests)
-
-module _ (n o k offset : ℕ) (D ds : List ℕ) (h : record_of n o k D ≡ Ok (data_at offset ds)) where
-  told_data_type : k ≡ 0
-  told_data_type = grind (arith, nat_tests)
-
-  told_offset : o ≡ offset
-  told_offset = grind (arith, nat_tests)
-
-  told_data : D ≡ ds
-  told_data = grind (arith, nat_tests)
-
-module _ (n o k : ℕ) (D : List ℕ) (h : record_of n o k D ≡ Ok end_of_file) where
-  told_end_type : k ≡ 1
-  told_end_type = grind (arith, nat_tests)
-
-  told_no_count : n ≡ 0
-  told_no_count = grind (arith, nat_tests)
-
-  told_no_offset : o ≡ 0
-  told_no_offset = grind (arith, nat_tests)
+sum_told : (bs xs : List ℕ) → summed bs ≡ Ok xs → (total bs % 256 ≡ 0) × (bs ≡ xs)
+sum_told bs xs h = (grind (arith, nat_tests), grind (arith, nat_tests))
 
 -- the fields of the record that some bytes are
-told_fields : (n b c d : ℕ) (D : List ℕ) (r : Content) → b < 256 → c < 256 → length D ≡ n
+fields_told : (n b c d : ℕ) (D : List ℕ) (r : Content) → b < 256 → c < 256 → length D ≡ n
     → record_of n (b * 256 + c) d D ≡ Ok r → n ∷ b ∷ c ∷ d ∷ D ≡ fields r
-told_fields n b c d D (data_at offset ds) lb lc lD h =
-    let kd = told_data_type n (b * 256 + c) d offset D ds h in
-    let ko = told_offset n (b * 256 + c) d offset D ds h in
-    let ks = told_data n (b * 256 + c) d offset D ds h in
-    let kn : n ≡ length ds = sym lD ∙ ap length ks in
-    let kb : b ≡ offset / 256 = omega arith in
-    let kc : c ≡ offset % 256 = omega arith in
-    cc
-told_fields n b c d D end_of_file lb lc lD h =
-    let kd = told_end_type n (b * 256 + c) d D h in
-    let kn = told_no_count n (b * 256 + c) d D h in
-    let ko = told_no_offset n (b * 256 + c) d D h in
-    let kb : b ≡ 0 = omega arith in
-    let kc : c ≡ 0 = omega arith in
-    let ks : D ≡ [] = nil_from_length D (lD ∙ kn) in
-    cc
+fields_told n b c d D (data_at offset ds) lb lc lD h = grind (arith, nat_tests)
+fields_told n b c d D end_of_file lb lc lD h = grind (arith, nat_tests, nil_from_length)
 
 -- bytes of the right count and total are a record's fields and their sum byte
 shaped : (Y : List ℕ) (n : ℕ) (r : Content) → octets Y ≡ true → length Y ≡ 5 + n → get_or Y 0 0 ≡ n → total Y % 256 ≡ 0
@@ -149,9 +90,9 @@ shaped (a ∷ b ∷ c ∷ d ∷ R) n r hY l e z h =
     let full : R ≡ D ++ s ∷ [] = sym (take_all (n + 1) R (omega arith)) ∙ take_more R n 0 (omega arith) in
     let lD : length D ≡ n = omega (arith, ap length full, length-append D (s ∷ [])) in
     let F : a ∷ b ∷ c ∷ d ∷ D ≡ fields r =
-    ap (λ x. x ∷ b ∷ c ∷ d ∷ D) e ∙ told_fields n b c d D r (octets_at Y 1 hY) (octets_at Y 2 hY) lD h in
+    ap (λ x. x ∷ b ∷ c ∷ d ∷ D) e ∙ fields_told n b c d D r (octets_at Y 1 hY (omega arith)) (octets_at Y 2 hY (omega arith)) lD h in
     let Ye : Y ≡ (a ∷ b ∷ c ∷ d ∷ D) ++ s ∷ [] = ap (λ xs. a ∷ b ∷ c ∷ d ∷ xs) full in
-    let fs : s < 256 = octets_at Y (suc (suc (suc (suc n)))) hY in
+    let fs : s < 256 = octets_at Y (suc (suc (suc (suc n)))) hY (omega arith) in
     let zero : (total (fields r) + s) % 256 ≡ 0 =
     omega (arith, z, ap total Ye, total-append (a ∷ b ∷ c ∷ d ∷ D) (s ∷ []), ap total F) in
     Ye ∙ ap₂ (λ xs x. xs ++ x ∷ []) F (sum_byte_alone (fields r) s fs zero)
@@ -162,20 +103,14 @@ first_then (c ∷ t) l h = ap (λ x. x ∷ t) h
 
 line_told : (t : List ℕ) (r : Content) → reading t ≡ Ok r → t ≡ line r
 line_told t r h =
-    let p = then_ok (digits_in t) (λ ds. then (counted ds) (λ n. then (summed (bytes_of ds)) (record_in n))) r h in
-    let ds : List ℕ = p.0 in
-    let q = then_ok (counted ds) (λ n. then (summed (bytes_of ds)) (record_in n)) r p.2 in
-    let n : ℕ = q.0 in
-    let u = then_ok (summed (bytes_of ds)) (record_in n) r q.2 in
-    let Y : List ℕ = bytes_of ds in
-    let count : get_or Y 0 0 ≡ n = told_count ds n q.1 in
-    let lds : length ds ≡ 10 + 2 * get_or Y 0 0 = told_length ds n q.1 in
-    let rest : ds ≡ drop 1 t = told_rest t ds p.1 in
-    let all : all_digits ds ≡ true = ap all_digits rest ∙ told_digits t ds p.1 in
-    let rec : record_in n Y ≡ Ok r = ap (record_in n) (told_bytes Y u.0 u.1) ∙ u.2 in
-    let s = shaped Y n r (bytes_are_octets ds all) (omega (arith, length-bytes ds)) count (told_total Y u.0 u.1) rec in
-    first_then t (told_long t ds p.1) (told_colon t ds p.1)
-    ∙ ap (λ xs. 58 ∷ xs) (sym rest ∙ sym (digits-bytes ds all (omega arith)) ∙ ap digits s)
+    let (ds, hd, hr) = then_ok (digits_in t) _ r h in
+    let (n, hn, hs) = then_ok (counted ds) _ r hr in
+    let (bs, hb, hf) = then_ok (summed (bytes_of ds)) _ r hs in
+    let (long, colon, all, rest) = digits_told t ds hd in
+    let (count, size) = count_told ds n hn in
+    let (sum, same) = sum_told (bytes_of ds) bs hb in
+    let s = shaped (bytes_of ds) n r (bytes_are_octets ds all) (omega (arith, length-bytes ds)) count sum (ap (record_in n) same ∙ hf) in
+    first_then t long colon ∙ ap (λ xs. 58 ∷ xs) (sym rest ∙ sym (digits-bytes ds all (omega arith)) ∙ ap digits s)
 
 pub canonical : (t : List ℕ) (a : Result Record RecordFault) → answer content a ≡ reading t → Canonical t (answer content a)
 canonical t (Ok x) e = (sound x, line_told t (content x) (sym e))

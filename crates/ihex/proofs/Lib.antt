@@ -1,5 +1,4 @@
 pub mod Octets
-pub mod Stored
 pub mod Spelling
 pub mod Characters
 pub mod Totals

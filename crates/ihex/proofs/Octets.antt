@@ -1,30 +1,23 @@
 -- lists of numbers of 8 bits
-use Rattle.std.proofs.Common.{◌≡◌, ℕ, zero, suc, ◌<◌, true, ltb, List, [], ◌∷◌, ◌++◌, get_or, take, replicate, refl, arith}
-use Rattle.std.proofs.lemmas.Bool.{and_from, and_parts, lt-ltb, ltb-true}
+use Rattle.std.proofs.Common.{◌≡◌, ℕ, ◌<◌, Bool, true, ltb, List, length, get_or, take, drop, ◌∙◌, ap}
+use Rattle.std.proofs.lemmas.Bool.{lt-ltb, ltb-true}
+use Rattle.std.proofs.lemmas.List.{get_or_default}
+use Rattle.std.proofs.lemmas.List.Sums.{AllPass-from_list_all, list_all-from_AllPass}
+use Rattle.std.proofs.lemmas.List.Elements.{All-take, All-drop}
 use Rattle.ihex.specs.Digits.{octets}
 
+abbrev pub octet : ℕ → Bool
+octet b = ltb b 256
+
 pub octets_from : (bs : List ℕ) → ((i : ℕ) → get_or bs i 0 < 256) → octets bs ≡ true
-octets_from [] h = refl
-octets_from (b ∷ bs) h = and_from (ltb b 256) (octets bs) (lt-ltb b 256 (h 0)) (octets_from bs (λ i. h (suc i)))
+octets_from bs h =
+    list_all-from_AllPass octet bs (λ k d l. ap octet (get_or_default bs k d 0 l) ∙ lt-ltb _ 256 (h k))
 
-pub octets_at : (bs : List ℕ) (i : ℕ) → octets bs ≡ true → get_or bs i 0 < 256
-octets_at [] i h = omega arith
-octets_at (b ∷ bs) zero h = ltb-true b 256 (and_parts (ltb b 256) (octets bs) h).0
-octets_at (b ∷ bs) (suc i) h = octets_at bs i (and_parts (ltb b 256) (octets bs) h).1
-
-pub octets-append : (xs ys : List ℕ) → octets xs ≡ true → octets ys ≡ true → octets (xs ++ ys) ≡ true
-octets-append [] ys hx hy = hy
-octets-append (x ∷ xs) ys hx hy =
-    let p = and_parts (ltb x 256) (octets xs) hx in
-    and_from (ltb x 256) (octets (xs ++ ys)) p.0 (octets-append xs ys p.1 hy)
+pub octets_at : (bs : List ℕ) (i : ℕ) → octets bs ≡ true → i < length bs → get_or bs i 0 < 256
+octets_at bs i h l = ltb-true _ 256 (AllPass-from_list_all octet bs h i 0 l)
 
 pub octets-take : (n : ℕ) (bs : List ℕ) → octets bs ≡ true → octets (take n bs) ≡ true
-octets-take zero bs h = refl
-octets-take (suc n) [] h = refl
-octets-take (suc n) (b ∷ bs) h =
-    let p = and_parts (ltb b 256) (octets bs) h in
-    and_from (ltb b 256) (octets (take n bs)) p.0 (octets-take n bs p.1)
+octets-take n bs h = list_all-from_AllPass octet (take n bs) (All-take (λ b. octet b ≡ true) n bs (AllPass-from_list_all octet bs h))
 
-pub octets_zeros : (n : ℕ) → octets (replicate n 0) ≡ true
-octets_zeros zero = refl
-octets_zeros (suc n) = octets_zeros n
+pub octets-drop : (n : ℕ) (bs : List ℕ) → octets bs ≡ true → octets (drop n bs) ≡ true
+octets-drop n bs h = list_all-from_AllPass octet (drop n bs) (All-drop (λ b. octet b ≡ true) n bs (AllPass-from_list_all octet bs h))

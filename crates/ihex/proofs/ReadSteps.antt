@@ -1,42 +1,17 @@
 -- the steps of reading a line
-use Rattle.std.proofs.Common.{◌≡◌, ℕ, ◌+◌, ◌*◌, ◌%◌, ◌<◌, ◌≤◌, true, false, not, List, [], ◌∷◌, ◌++◌, length, get_or, take, drop, set, Ok, Err, sym, ap, ◌∙◌, arith}
-use Rattle.std.proofs.lemmas.List.{append_assoc, length-take-le, take_more, drop_more, set_at}
-use Rattle.std.proofs.lemmas.Bool.{cond-true, cond-false}
+use Rattle.std.proofs.Common.{◌≡◌, ℕ, ◌+◌, ◌*◌, ◌%◌, ◌≤◌, true, List, length, get_or, drop, Ok, Err, ap, ◌∙◌, arith}
 use Rattle.std.proofs.lemmas.Bool.Decides.{nat_tests}
 use Rattle.refusal.specs.Answers.{then}
 use Rattle.ihex.specs.Digits.{bytes_of, total, all_digits}
-use Rattle.ihex.specs.Reading.{digits_in, is_counted, counted, summed, record_in, reading}
-use Rattle.ihex.specs.declared.fault.RecordFault.TheVariants.{Count, Sum}
-
--- one element more is copied
-pub copied_more : (xs o : List ℕ) (i : ℕ) → i < length xs → i < length o
-    → set (take i xs ++ drop i o) i (get_or xs i 0) ≡ take (i + 1) xs ++ drop (i + 1) o
-copied_more xs o i lx lo =
-    let x : ℕ = get_or xs i 0 in
-    ap (λ z. set (take i xs ++ z) i x) (drop_more o i 0 lo)
-    ∙ set_at (take i xs) (get_or o i 0) (drop (i + 1) o) x i (length-take-le i xs (omega arith))
-    ∙ sym (append_assoc (take i xs) (x ∷ []) (drop (i + 1) o))
-    ∙ ap (λ p. p ++ drop (i + 1) o) (sym (take_more xs i 0 lx))
+use Rattle.ihex.specs.Reading.{digits_in, counted, summed, record_in, reading}
+use Rattle.ihex.specs.declared.fault.RecordFault.TheVariants.{Sum}
 
 -- each answer of the checks
 pub digits_found : (t : List ℕ) → 11 ≤ length t → get_or t 0 0 ≡ 58 → all_digits (drop 1 t) ≡ true → digits_in t ≡ Ok (drop 1 t)
 digits_found t l c h = grind (arith, nat_tests)
 
-pub count_told : (n digits : ℕ) → is_counted n digits ≡ true → (n ≤ 128) × (digits ≡ 10 + 2 * n)
-count_told n digits h = (grind (arith, nat_tests), grind (arith, nat_tests))
-
-module _ (ds : List ℕ) (n : ℕ) (e : get_or (bytes_of ds) 0 0 ≡ n) where
-  pub count_bad : is_counted n (length ds) ≡ false → counted ds ≡ Err Count
-  count_bad h = cond-true _ _ _ (ap (λ k. not (is_counted k (length ds))) e ∙ ap not h)
-
-  pub count_good : is_counted n (length ds) ≡ true → counted ds ≡ Ok n
-  count_good h = cond-false _ _ _ (ap (λ k. not (is_counted k (length ds))) e ∙ ap not h) ∙ ap Ok e
-
-sum_good : (bs : List ℕ) → total bs % 256 ≡ 0 → summed bs ≡ Ok bs
-sum_good bs h = grind (arith, nat_tests)
-
-sum_bad : (bs : List ℕ) → (total bs % 256 ≡ 0 → ⊥) → summed bs ≡ Err Sum
-sum_bad bs h = grind (arith, nat_tests)
+pub count_good : (ds : List ℕ) (n : ℕ) → get_or (bytes_of ds) 0 0 ≡ n → n ≤ 128 → length ds ≡ 10 + 2 * n → counted ds ≡ Ok n
+count_good ds n e few size = grind (arith, nat_tests)
 
 -- what is left once the digits and the count are found
 module _ (t ds : List ℕ) (n : ℕ) (hd : digits_in t ≡ Ok ds) (hc : counted ds ≡ Ok n) where
@@ -46,7 +21,11 @@ module _ (t ds : List ℕ) (n : ℕ) (hd : digits_in t ≡ Ok ds) (hc : counted 
       ∙ ap (λ r. then r (λ n. then (summed (bytes_of ds)) (record_in n))) hc
 
   pub reading_bad_sum : (total (bytes_of ds) % 256 ≡ 0 → ⊥) → reading t ≡ Err Sum
-  reading_bad_sum h = reading_counted ∙ ap (λ a. then a (record_in n)) (sum_bad (bytes_of ds) h)
+  reading_bad_sum h =
+      let e : summed (bytes_of ds) ≡ Err Sum = grind (arith, nat_tests) in
+      reading_counted ∙ ap (λ a. then a (record_in n)) e
 
   pub reading_summed : total (bytes_of ds) % 256 ≡ 0 → reading t ≡ record_in n (bytes_of ds)
-  reading_summed h = reading_counted ∙ ap (λ a. then a (record_in n)) (sum_good (bytes_of ds) h)
+  reading_summed h =
+      let e : summed (bytes_of ds) ≡ Ok (bytes_of ds) = grind (arith, nat_tests) in
+      reading_counted ∙ ap (λ a. then a (record_in n)) e

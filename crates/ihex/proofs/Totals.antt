@@ -1,5 +1,5 @@
 -- totals modulo 256
-use Rattle.std.proofs.Common.{◌≡◌, ℕ, zero, suc, ◌+◌, ◌-◌, ◌*◌, ◌/◌, ◌%◌, ◌<◌, List, [], ◌∷◌, ◌++◌, length, get_or, take, arith}
+use Rattle.std.proofs.Common.{◌≡◌, ℕ, ◌+◌, ◌%◌, ◌<◌, List, [], ◌∷◌, ◌++◌, length, get_or, take, arith}
 use Rattle.std.proofs.lemmas.List.Sums.{sum_by-append, sum_by_more}
 use Rattle.ihex.specs.Content.{sum_byte}
 use Rattle.ihex.specs.Digits.{total}
@@ -16,10 +16,5 @@ total_more s i bs l = omega (arith, sum_by_more (λ x. x) bs i 0 l)
 pub sum_byte_closes : (bs : List ℕ) → total (bs ++ sum_byte bs ∷ []) % 256 ≡ 0
 sum_byte_closes bs = omega (arith, total-append bs (sum_byte bs ∷ []))
 
-closing : (r s q : ℕ) → r < 256 → s < 256 → r + s ≡ 256 * q → s ≡ (256 - r) % 256
-closing r s zero lr ls e = omega arith
-closing r s (suc zero) lr ls e = omega arith
-closing r s (suc (suc q)) lr ls e = absurd (omega arith)
-
 pub sum_byte_alone : (bs : List ℕ) (s : ℕ) → s < 256 → (total bs + s) % 256 ≡ 0 → s ≡ sum_byte bs
-sum_byte_alone bs s ls e = closing (total bs % 256) s ((total bs + s) / 256 - total bs / 256) (omega arith) ls (omega arith)
+sum_byte_alone bs s ls e = omega arith

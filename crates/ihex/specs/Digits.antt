@@ -1,5 +1,6 @@
 -- hexadecimal digits, as Intel's object format writes them: upper case, two to a byte, the high one first
-use Rattle.std.specs.Prelude.{ℕ, ◌+◌, ◌-◌, ◌*◌, ◌/◌, ◌%◌, Bool, true, cond, ◌&&◌, ◌||◌, List, [], ◌∷◌, sum, nat_le, nat_lt}
+use Rattle.std.specs.Prelude.{ℕ, ◌+◌, ◌-◌, ◌*◌, ◌/◌, ◌%◌, Bool, cond, ◌&&◌, ◌||◌, List, [], ◌∷◌, sum, nat_le, nat_lt}
+use Rattle.std.specs.List.{list_all}
 
 -- the character of a value below 16
 abbrev pub digit : ℕ → ℕ
@@ -14,8 +15,7 @@ abbrev pub value : ℕ → ℕ
 value c = cond (nat_le c 57) (c - 48) (c - 55)
 
 abbrev pub all_digits : List ℕ → Bool
-all_digits [] = true
-all_digits (c ∷ cs) = is_digit c && all_digits cs
+all_digits cs = list_all is_digit cs
 
 -- the digits of some bytes
 abbrev pub digits : List ℕ → List ℕ
@@ -30,8 +30,7 @@ bytes_of (a ∷ b ∷ cs) = (value a * 16 + value b) ∷ bytes_of cs
 
 -- every number is one of 8 bits
 abbrev pub octets : List ℕ → Bool
-octets [] = true
-octets (b ∷ bs) = nat_lt b 256 && octets bs
+octets bs = list_all (λ b. nat_lt b 256) bs
 
 abbrev pub total : List ℕ → ℕ
 total bs = sum bs

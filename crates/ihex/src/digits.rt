@@ -1,7 +1,7 @@
 // Upper-case digits, and the two of a byte.
 
-ghost use Rattle.std.specs.Prelude.{◌≡◌, ◌<◌, [], ◌∷◌};
-ghost use Rattle.ihex.specs.Digits.{digit, digits, is_digit, all_digits};
+ghost use Rattle.std.specs.Prelude.{◌≡◌, ◌+◌, ◌*◌, ◌<◌, true, [], ◌∷◌};
+ghost use Rattle.ihex.specs.Digits.{digit, digits, is_digit, value, all_digits};
 
 // The character of a value below 16.
 fn digit_of(n: u8) -> u8
@@ -19,20 +19,33 @@ pub fn digits_of(b: u8) -> [u8; 2]
 }
 
 // Whether a character is an upper-case digit.
-pub(crate) fn is_upper_digit(c: u8) -> bool
+fn is_upper_digit(c: u8) -> bool
     ensures { result ≡ is_digit c }
 {
-    c >= b'0' && c <= b'9' || c >= b'A' && c <= b'F'
+    matches!(c, b'0'..=b'9' | b'A'..=b'F')
 }
 
 // Whether all characters are upper-case digits.
 pub(crate) fn are_digits(text: &[u8]) -> bool
     ensures { result ≡ all_digits text.now }
 {
-    for c in text {
-        if !is_upper_digit(*c) {
-            return false;
-        }
-    }
-    true
+    text.iter().all(|c| is_upper_digit(*c))
+}
+
+// The value of a digit.
+fn value_of(c: u8) -> u8
+    requires { is_digit c ≡ true }
+    ensures value { result ≡ value c }
+    ensures small { result < 16 }
+{
+    if c <= b'9' { c - b'0' } else { c - (b'A' - 10) }
+}
+
+// The byte of two digits, the high one first.
+pub(crate) fn byte_of(high: u8, low: u8) -> u8
+    requires high { is_digit high ≡ true }
+    requires low { is_digit low ≡ true }
+    ensures { result ≡ value high * 16 + value low }
+{
+    value_of(high) * 16 + value_of(low)
 }

@@ -1,80 +1,70 @@
 // Reading a record's line, one function for each step of the checks.
 
-ghost use Rattle.std.specs.Prelude.{◌≡◌, ◌+◌, ◌*◌, ◌/◌, ◌%◌, ◌<◌, ◌≤◌, true, ◌++◌, length, drop, IfOk};
+ghost use Rattle.std.specs.Prelude.{◌≡◌, ◌+◌, ◌*◌, ◌/◌, ◌%◌, ◌≤◌, true, ◌++◌, length, drop, IfOk};
 ghost use Rattle.refusal.specs.Answers.{answer};
-ghost use Rattle.ihex.specs.Digits.{is_digit, value, all_digits, bytes_of, total};
+ghost use Rattle.ihex.specs.Digits.{all_digits, bytes_of, total};
 ghost use Rattle.ihex.specs.Laws.{Canonical};
-ghost use Rattle.ihex.specs.Meaning.{content, referred};
-ghost use Rattle.ihex.specs.Reading.{digits_in, is_counted, counted, record_in, reading};
+ghost use Rattle.ihex.specs.Meaning.{content};
+ghost use Rattle.ihex.specs.Reading.{digits_in, counted, record_in, reading};
 
 use crate::data_record::{DataRecord, MAX_DATA};
-use crate::digits::are_digits;
+use crate::digits::{are_digits, byte_of};
 use crate::fault::RecordFault;
-use crate::record::Record;
+use crate::record::{Record, RecordType};
 
-// The digits after the colon.
-fn find_digits(text: &[u8]) -> Result<&[u8], RecordFault>
-    ensures answer { digits_in text.now ≡ answer referred result }
-    ensures digits { IfOk result (λ ds. (all_digits ds.now ≡ true) × (10 ≤ length ds.now)) }
-{
-    if text.len() < Record::SHORTEST {
-        return Err(RecordFault::Short);
-    }
-    if text[0] != Record::COLON {
-        return Err(RecordFault::NoColon);
-    }
-    let digits = &text[1..];
-    if !are_digits(digits) {
-        return Err(RecordFault::NotADigit);
-    }
-    Ok(digits)
+// The digits of a line: all upper case, and at least two for each of the five bytes of every record.
+#[derive(Clone, Copy)]
+struct Digits<'a> {
+    text: &'a [u8],
+    ghost upper: { all_digits text.now ≡ true },
+    ghost enough: { 10 ≤ length text.now },
 }
 
-// The value of a digit.
-fn value_of(c: u8) -> u8
-    requires { is_digit c ≡ true }
-    ensures value { result ≡ value c }
-    ensures small { result < 16 }
-{
-    if c <= b'9' { c - b'0' } else { c - (b'A' - 10) }
-}
-
-// Whether a line with this count has this many digits.
-fn is_count(count: usize, digits: usize) -> bool
-    requires { count < 256 }
-    ensures { result ≡ is_counted count digits }
-{
-    count <= MAX_DATA && digits == Record::SHORTEST - 1 + 2 * count
-}
-
-// The count, if there are as many digits as it says.
-fn check_count(digits: &[u8]) -> Result<usize, RecordFault>
-    requires { (all_digits digits.now ≡ true) × (10 ≤ length digits.now) }
-    ensures answer { result ≡ counted digits.now }
-    ensures fits { IfOk result (λ n. (n ≤ 128) × (length digits.now ≡ 10 + 2 * n)) }
-{
-    let count = (value_of(digits[0]) * 16 + value_of(digits[1])) as usize;
-    if !is_count(count, digits.len()) {
-        return Err(RecordFault::Count);
+impl<'a> Digits<'a> {
+    // The digits after the colon.
+    fn find(line: &'a [u8]) -> Result<Self, RecordFault>
+        ensures { digits_in line.now ≡ answer (λ d. d.text.now) result }
+    {
+        if line.len() < Record::SHORTEST {
+            return Err(RecordFault::Short);
+        }
+        let [Record::COLON, text @ ..] = line else {
+            return Err(RecordFault::NoColon);
+        };
+        if !are_digits(text) {
+            return Err(RecordFault::NotADigit);
+        }
+        Ok(Digits { text })
     }
-    Ok(count)
-}
 
-// Writes the byte of each pair of digits at the front of `out`, and answers their total modulo 256.
-fn decode(digits: &[u8], out: &mut [u8]) -> u8
-    requires { (all_digits digits.now ≡ true) × (length digits.now / 2 ≤ length out.old) }
-    ensures sum { result ≡ total (bytes_of digits.now) % 256 }
-    ensures out { out.new ≡ bytes_of digits.now ++ drop (length digits.now / 2) out.old }
-{
-    let mut sum = 0u8;
-    for i in 0..digits.len() / 2 {
-        let high = value_of(digits[2 * i]);
-        let low = value_of(digits[2 * i + 1]);
-        let b = high * 16 + low;
-        out[i] = b;
-        sum = sum.wrapping_add(b);
+    // The count, if there are as many digits as it says.
+    fn count(&self) -> Result<usize, RecordFault>
+        ensures answer { result ≡ counted self.now.text.now }
+        ensures few { IfOk result (λ n. n ≤ 128) }
+        ensures long { IfOk result (λ n. length self.now.text.now ≡ 10 + 2 * n) }
+    {
+        let count = byte_of(self.text[0], self.text[1]) as usize;
+        if count > MAX_DATA || self.text.len() != Record::SHORTEST - 1 + 2 * count {
+            return Err(RecordFault::Count);
+        }
+        Ok(count)
     }
-    sum
+
+    // Writes the byte of each pair of digits at the front of `out`, and answers their total modulo 256.
+    fn decode(&self, out: &mut [u8]) -> u8
+        requires { length self.now.text.now / 2 ≤ length out.old }
+        ensures sum { result ≡ total (bytes_of self.now.text.now) % 256 }
+        ensures out { out.new ≡ bytes_of self.now.text.now ++ drop (length self.now.text.now / 2) out.old }
+    {
+        let (pairs, _) = self.text.as_chunks::<2>();
+        let mut sum = 0u8;
+        for (i, [high, low]) in pairs.iter().enumerate() {
+            let b = byte_of(*high, *low);
+            out[i] = b;
+            sum = sum.wrapping_add(b);
+        }
+        sum
+    }
 }
 
 // The record of these bytes, of which `count` are data.
@@ -83,15 +73,11 @@ fn find_record(count: usize, bytes: &[u8]) -> Result<Record, RecordFault>
     ensures { answer content result ≡ record_in count bytes.now }
 {
     let offset = u16::from_be_bytes([bytes[1], bytes[2]]);
-    let kind = bytes[3];
-    if kind == Record::DATA {
-        let data = DataRecord::new(offset, &bytes[4..4 + count])?;
-        return Ok(Record::Data(data));
+    match RecordType::try_from(bytes[3])? {
+        RecordType::Data => DataRecord::new(offset, &bytes[4..4 + count]).map(Record::Data),
+        RecordType::EndOfFile if count == 0 && offset == 0 => Ok(Record::End),
+        RecordType::EndOfFile => Err(RecordFault::Unknown),
     }
-    if kind == Record::END && count == 0 && offset == 0 {
-        return Ok(Record::End);
-    }
-    Err(RecordFault::Unknown)
 }
 
 impl Record {
@@ -100,12 +86,12 @@ impl Record {
         ensures answer { answer content result ≡ reading text.now }
         ensures canonical { Canonical text.now (answer content result) }
     {
-        let digits = find_digits(text)?;
-        let count = check_count(digits)?;
+        let digits = Digits::find(text)?;
+        let count = digits.count()?;
         let mut bytes = [0; Record::MAX_BYTES];
-        if decode(digits, &mut bytes) != Record::TOTAL {
+        if digits.decode(&mut bytes) != Record::TOTAL {
             return Err(RecordFault::Sum);
         }
-        find_record(count, &bytes[0..5 + count])
+        find_record(count, &bytes[..5 + count])
     }
 }

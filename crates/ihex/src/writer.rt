@@ -1,25 +1,23 @@
 // Writing a record's line.
 
-ghost use Rattle.std.specs.Prelude.{◌≡◌, ◌+◌, ◌*◌, ◌/◌, ◌%◌, ◌≤◌, ◌++◌, length, take, drop, slice_set};
+ghost use Rattle.std.specs.Prelude.{◌≡◌, ◌+◌, ◌*◌, ◌%◌, ◌≤◌, [], ◌∷◌, length, take, drop};
 ghost use Rattle.ihex.specs.Content.{complement, fields};
-ghost use Rattle.ihex.specs.Digits.{digit, digits, total};
+ghost use Rattle.ihex.specs.Digits.{total};
 ghost use Rattle.ihex.specs.Laws.{ReadsBack};
 ghost use Rattle.ihex.specs.Meaning.{content};
-ghost use Rattle.ihex.specs.Writing.{written, written_to};
+ghost use Rattle.ihex.specs.Writing.{spelled, written, written_to};
 
 use crate::digits::digits_of;
-use crate::record::Record;
+use crate::record::{Record, RecordType};
 use refusal::BufferTooShort;
 
 // Writes a byte's two digits, and answers the total with the byte added, modulo 256.
 fn write_byte(out: &mut [u8], at: usize, b: u8, sum: u8) -> u8
     requires { at + 2 ≤ length out.old }
     ensures sum { result ≡ (sum + b) % 256 }
-    ensures out { out.new ≡ slice_set (slice_set out.old at (digit (b / 16))) (at + 1) (digit (b % 16)) }
+    ensures out { out.new ≡ spelled out.old at (b ∷ []) }
 {
-    let [high, low] = digits_of(b);
-    out[at] = high;
-    out[at + 1] = low;
+    out[at..at + 2].copy_from_slice(&digits_of(b));
     sum.wrapping_add(b)
 }
 
@@ -27,13 +25,11 @@ fn write_byte(out: &mut [u8], at: usize, b: u8, sum: u8) -> u8
 fn write_bytes(out: &mut [u8], at: usize, bytes: &[u8], start: u8) -> u8
     requires { at + 2 * length bytes.now ≤ length out.old }
     ensures sum { result ≡ (start + total bytes.now) % 256 }
-    ensures out { out.new ≡ take at out.old ++ (digits bytes.now ++ drop (at + 2 * length bytes.now) out.old) }
+    ensures out { out.new ≡ spelled out.old at bytes.now }
 {
     let mut sum = start;
-    let mut place = at;
-    for b in bytes {
-        sum = write_byte(out, place, *b, sum);
-        place += 2;
+    for (i, b) in bytes.iter().enumerate() {
+        sum = write_byte(out, at + 2 * i, *b, sum);
     }
     sum
 }
@@ -53,9 +49,9 @@ impl Record {
         match self {
             Record::Data(data) => {
                 let [high, low] = data.offset().to_be_bytes();
-                [data.data().len() as u8, high, low, Record::DATA]
+                [data.data().len() as u8, high, low, RecordType::Data as u8]
             }
-            Record::End => [0, 0, 0, Record::END],
+            Record::End => [0, 0, 0, RecordType::EndOfFile as u8],
         }
     }
 

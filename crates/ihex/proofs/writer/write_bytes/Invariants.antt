@@ -1,9 +1,10 @@
-use Rattle.std.proofs.Common.{◌≡◌, ◌+◌, ◌*◌, ◌%◌, ◌++◌, take, drop}
-use Rattle.ihex.specs.Digits.{digits, total}
+use Rattle.std.proofs.Common.{◌≡◌, ◌+◌, ◌%◌, take}
+use Rattle.ihex.specs.Digits.{total}
+use Rattle.ihex.specs.Writing.{spelled}
 use Rattle.ihex.proofs.writer.write_bytes.Given as goal
 
-abbrev pub invariant-loop-b : goal.invariant-loop-b
-invariant-loop-b l =
-    (l.place ≡ l.at + 2 * l.b-index)
-    × (l.sum ≡ (l.start + total (take l.b-index l.bytes)) % 256)
-    × (l.out ≡ take l.at l.initial.out ++ (digits (take l.b-index l.bytes) ++ drop (l.at + 2 * l.b-index) l.initial.out))
+abbrev pub invariant-loop-i : goal.invariant-loop-i
+invariant-loop-i l = record {
+  sum : l.sum ≡ (l.start + total (take l.i l.bytes)) % 256;
+  out : l.out ≡ spelled l.initial.out l.at (take l.i l.bytes);
+}

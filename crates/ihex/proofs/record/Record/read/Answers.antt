@@ -1,4 +1,4 @@
-use Rattle.std.proofs.Common.{◌≡◌, ◌+◌, ◌-◌, take, sym, ap, ◌∙◌, arith}
+use Rattle.std.proofs.Common.{◌≡◌, ◌+◌, take, sym, ap, ◌∙◌, arith}
 use Rattle.std.proofs.lemmas.List.{take_at}
 use Rattle.ihex.specs.Digits.{bytes_of}
 use Rattle.ihex.specs.Reading.{record_in}
@@ -7,30 +7,18 @@ use Rattle.ihex.proofs.ReadSteps.{reading_bad_sum, reading_summed}
 use Rattle.ihex.proofs.Spelling.{length-bytes}
 use Rattle.ihex.proofs.record.Record.read.Goals as goal
 
-pub decode-requires : goal.decode-requires
-decode-requires c =
-    let n = c.in_ok-count.ensures.fits in
-    (c.in_ok-digits.ensures.digits.0, omega (arith, n.0, n.1))
-
-pub returns-then-decode-ne-TOTAL : goal.returns-then-decode-ne-TOTAL
-returns-then-decode-ne-TOTAL c =
-    let e =
-    reading_bad_sum c.args.text.now c.in_ok-digits.digits.now c.in_ok-count.count
-    c.in_ok-digits.ensures.answer (sym c.in_ok-count.ensures.answer)
-    (λ h. c.if-decode-ne-TOTAL.true (c.decode.ensures.sum ∙ h)) in
-    record { answer = sym e; canonical = tt }
+pub returns-then-decode-ne-TOTAL-clause-answer : goal.returns-then-decode-ne-TOTAL-clause-answer
+returns-then-decode-ne-TOTAL-clause-answer c =
+    sym (reading_bad_sum c.args.text.now c.in_ok-digits.digits.text.now c.in_ok-count.count c.in_ok-digits.ensures (sym c.in_ok-count.ensures.answer)
+    (λ h. c.if-decode-ne-TOTAL.true (c.decode.ensures.sum ∙ h)))
 
 pub returns : goal.returns
 returns c =
     let t = c.args.text.now in
-    let ds = c.in_ok-digits.digits.now in
+    let ds = c.in_ok-digits.digits.text.now in
     let n = c.in_ok-count.count in
-    let fits = c.in_ok-count.ensures.fits in
-    let e =
-    reading_summed t ds n c.in_ok-digits.ensures.answer (sym c.in_ok-count.ensures.answer)
-    (sym c.decode.ensures.sum ∙ c.if-decode-ne-TOTAL.false) in
-    let part : take (5 + n - 0) c.decode.new.out ≡ bytes_of ds =
-    ap (take (5 + n - 0)) c.decode.ensures.out
-    ∙ take_at (bytes_of ds) _ (5 + n - 0) (omega (arith, length-bytes ds, fits.1)) in
-    let answer = c.find_record.ensures ∙ ap (record_in n) part ∙ sym e in
+    let part : take (5 + n) c.decode.new.out ≡ bytes_of ds =
+    ap (take (5 + n)) c.decode.ensures.out ∙ take_at (bytes_of ds) _ (5 + n) (omega (arith, length-bytes ds, c.in_ok-count.ensures.long)) in
+    let answer = c.find_record.ensures ∙ ap (record_in n) part
+    ∙ sym (reading_summed t ds n c.in_ok-digits.ensures (sym c.in_ok-count.ensures.answer) (sym c.decode.ensures.sum ∙ c.if-decode-ne-TOTAL.false)) in
     record { answer = answer; canonical = canonical t _ answer }

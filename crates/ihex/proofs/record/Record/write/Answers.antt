@@ -1,36 +1,30 @@
-use Rattle.std.proofs.Common.{◌≡◌, ◌+◌, ◌*◌, ◌%◌, ◌<◌, ◌≤◌, ◌++◌, length, Ok, sym, ap, ◌∙◌, ap₂, arith}
+use Rattle.std.proofs.Common.{◌≡◌, ◌<◌, ◌+◌, ◌*◌, ◌%◌, ◌++◌, length, ap, ◌∙◌, ap₂, arith}
 use Rattle.std.proofs.lemmas.List.{take-append-drop}
+use Rattle.std.proofs.lemmas.Bool.Decides.{nat_tests}
 use Rattle.ihex.specs.Content.{line, complement, fields, sum_byte}
 use Rattle.ihex.specs.Digits.{total}
 use Rattle.ihex.specs.Meaning.{content}
 use Rattle.ihex.proofs.Inverse.{reads_back, sound}
 use Rattle.ihex.proofs.Totals.{total-append}
-use Rattle.ihex.proofs.WriteSteps.{line_length, line_written, refused_short, written_whole}
+use Rattle.ihex.proofs.WriteSteps.{line_length, line_written}
 use Rattle.ihex.proofs.record.Record.write.Goals as goal
 
 pub returns-then-out-length : goal.returns-then-out-length
 returns-then-out-length c =
     let r = content c.args.self.now in
-    let out = c.args.out.now in
-    let short : length out < length (line r) = omega (arith, c.if-out-length.true, line_length r, ap length c.data-data.ensures) in
-    let p = refused_short r out short in
-    record { answer = p.0; buffer = p.1; reads_back = reads_back r (sound c.args.self.now) }
+    let short : length c.args.out.now < length (line r) = omega (arith, line_length r, ap length c.data-data.ensures) in
+    record { answer = grind (arith, nat_tests); buffer = grind (arith, nat_tests); reads_back = reads_back r (sound c.args.self.now) }
 
 pub returns : goal.returns
 returns c =
     let r = content c.args.self.now in
-    let out = c.args.out.now in
     let D = c.data-data.result.now in
     let H = c.header.result in
-    let s = c.sum_byte.result in
     let n : 11 + 2 * length D ≡ length (line r) = omega (arith, line_length r, ap length c.data-data.ensures) in
-    let long : length (line r) ≤ length out = omega (arith, c.if-out-length.false, n) in
-    let p = written_whole r out long in
-    let parts : total H + total D ≡ total (fields r) =
-    sym (total-append H D) ∙ ap total (ap₂ (λ x y. x ++ y) c.header.ensures c.data-data.ensures ∙ take-append-drop 4 (fields r)) in
+    let all : H ++ D ≡ fields r = ap₂ (λ x y. x ++ y) c.header.ensures c.data-data.ensures ∙ take-append-drop 4 (fields r) in
     let sum : c.write_bytes-sum.result ≡ total (fields r) % 256 =
-    omega (arith, c.write_bytes-head.ensures.sum, c.write_bytes-sum.ensures.sum, parts) in
-    let es : s ≡ sum_byte (fields r) = c.sum_byte.ensures ∙ ap complement sum ∙ omega arith in
-    let w = line_written r out c.write_bytes-head.new.out c.write_bytes-sum.new.out c.write_bytes.new.out H D s (omega arith)
-    c.header.ensures c.data-data.ensures c.write_bytes-head.ensures.out c.write_bytes-sum.ensures.out c.write_bytes.ensures.out es in
-    record { answer = ap Ok n ∙ p.0; buffer = w ∙ p.1; reads_back = reads_back r (sound c.args.self.now) }
+    omega (arith, c.write_bytes-head.ensures.sum, c.write_bytes-sum.ensures.sum, total-append H D, ap total all) in
+    let s : c.sum_byte.result ≡ sum_byte (fields r) = c.sum_byte.ensures ∙ ap complement sum ∙ omega arith in
+    let w = line_written r c.args.out.now _ _ _ H D _ (omega arith) (omega arith) all s
+    c.write_bytes-head.ensures.out c.write_bytes-sum.ensures.out c.write_bytes.ensures.out in
+    record { answer = grind (arith, nat_tests); buffer = grind (arith, nat_tests); reads_back = reads_back r (sound c.args.self.now) }
