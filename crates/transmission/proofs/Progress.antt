@@ -9,6 +9,7 @@ use Rattle.hdlc.specs.Numbers.{number_of, next_number}
 use Rattle.hdlc.specs.declared.number.SequenceNumber.{SequenceNumber}
 use Rattle.image.specs.Files.{closed, file}
 use Rattle.image.proofs.Tallies.{file_push, file_lines}
+use Rattle.lane.specs.declared.interface.Lane.{Ghosts as Lane}
 use Rattle.transmission.specs.Sending.{numbered, Sends, none, one, Sent, SentOne}
 use Rattle.transmission.specs.Tallies.{counted, no_traffic, tally_from}
 use Rattle.transmission.specs.declared.traffic.Traffic.{Traffic}
@@ -39,26 +40,26 @@ line_front r t n e h =
     ap (take (n - 2)) (h ∙ append_assoc (line r) (13 ∷ 10 ∷ []) (drop n t))
     ∙ take_at (line r) _ (n - 2) (omega (arith, length-append (line r) (13 ∷ 10 ∷ [])))
 
-module _ {S : Type 0} (waiting : S → List (List ℕ)) (puts : S → List ℕ → S → Type 0) (takes : S → Option (List ℕ) → S → Type 0) where
+module _ {S : Type 0} (lane : Lane S) where
   pub record SoFar (s : S) (text : List ℕ) (t : Traffic) (n : SequenceNumber) (rest : List ℕ) (s' : S) : Type 0 where
     pub records : List Content
     pub sound : AllByRecursion Sound records
     pub begins : text ≡ file records ++ rest
     pub counts : number_of n ≡ length records % 8
-    pub sent : Sent waiting puts takes s (numbered 0 records) t s'
+    pub sent : Sent lane s (numbered 0 records) t s'
 
-  pub far_begins : (s : S) (text : List ℕ) (t : Traffic) (n : SequenceNumber) → t ≡ no_traffic → number_of n ≡ 0 → SoFar s text t n text s
-  far_begins s text t n e h = record {
+  pub far_begins : (s : S) (text : List ℕ) (t : Traffic) (n : SequenceNumber) → (t.put ≡ 0) × ((t.taken ≡ 0) × (t.lost ≡ 0)) → number_of n ≡ 0 → SoFar s text t n text s
+  far_begins s text t n z h = let e : t ≡ no_traffic = λ i. record { put = z.0 i; taken = z.1.0 i; lost = z.1.1 i } in record {
     records = [];
     sound = tt;
     begins = refl;
     counts = h;
-    sent = subst (λ u. Sent waiting puts takes s [] u s) (sym e) (sent_none waiting puts takes s);
+    sent = subst (λ u. Sent lane s [] u s) (sym e) (sent_none lane s);
   }
 
   pub far_on : (s m s' : S) (text rest rest' xs : List ℕ) (t t' : Traffic) (n n' : SequenceNumber) (r : Content) (came : Bool)
       → SoFar s text t n rest m → Sound r → rest ≡ closed r ++ rest' → xs ≡ line r → t' ≡ counted t came → number_of n' ≡ next_number (number_of n)
-      → SentOne waiting puts takes m (frame (information (number_of n) xs)) came s' → SoFar s text t' n' rest' s'
+      → SentOne lane m (frame (information (number_of n) xs)) came s' → SoFar s text t' n' rest' s'
   far_on s m s' text rest rest' xs t t' n n' r came a sound begins is_line counts next sent =
       let rs = a.records in
       let f : List ℕ = frame (information (number_of n) xs) in
@@ -71,11 +72,11 @@ module _ {S : Type 0} (waiting : S → List (List ℕ)) (puts : S → List ℕ �
         begins = file_push text rest rest' rs r a.begins begins;
         counts = omega (arith, next, a.counts, length_push rs r);
         sent =
-            subst (λ u. Sent waiting puts takes s (numbered 0 (rs ++ r ∷ [])) u s') (sym counts)
-            (subst (λ fs. Sent waiting puts takes s fs (counted t came) s') frames (sent_push waiting puts takes s m s' (numbered 0 rs) f t came a.sent sent));
+            subst (λ u. Sent lane s (numbered 0 (rs ++ r ∷ [])) u s') (sym counts)
+            (subst (λ fs. Sent lane s fs (counted t came) s') frames (sent_push lane s m s' (numbered 0 rs) f t came a.sent sent));
       }
 
-  length_sends : {s s' : S} {fs : List (List ℕ)} {os : List (Option (List ℕ))} → Sends puts takes s fs os s' → length os ≡ length fs
+  length_sends : {s s' : S} {fs : List (List ℕ)} {os : List (Option (List ℕ))} → Sends lane s fs os s' → length os ≡ length fs
   length_sends none = refl
   length_sends (one p h) = ap suc (length_sends h)
 

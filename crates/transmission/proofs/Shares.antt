@@ -3,15 +3,19 @@ use Rattle.std.proofs.Common.{◌≡◌, ℕ, zero, suc, ◌+◌, ◌/◌, ◌%�
 use native.Mathlib.Nat.{add-div_left, div-eq_of_lt, mod_self}
 use Rattle.std.proofs.lemmas.Bool.{cases_eq, cond-false, ne_eqb}
 use Rattle.lane.specs.Drops.{counted, dropped}
-use Rattle.transmission.specs.Layers.{fresh, outcomes, kth_of}
+use Rattle.transmission.specs.Layers.{fresh, outcomes, Trial, kth_of}
+use Rattle.transmission.specs.Sending.{numbered}
 use Rattle.transmission.specs.Tallies.{tally, tally_from, no_traffic}
 use Rattle.transmission.specs.Tallies
 use Rattle.transmission.specs.declared.traffic.Traffic.{Traffic}
 
 -- no layer
-pub none_lost : (t : Traffic) (fs : List (List ℕ)) → (tally_from t (outcomes [] fs)).lost ≡ t.lost
-none_lost t [] = refl
-none_lost t (f ∷ fs) = none_lost (Tallies.counted t true) fs ∙ omega arith
+all_pass : (t : Traffic) (fs : List (List ℕ)) → (tally_from t (outcomes [] fs)).lost ≡ t.lost
+all_pass t [] = refl
+all_pass t (f ∷ fs) = all_pass (Tallies.counted t true) fs ∙ omega arith
+
+pub none_lost : {text : List ℕ} {t : Traffic} → Trial [] text t → t.lost ≡ 0
+none_lost a = ap (λ u. u.lost) a.tallied ∙ all_pass no_traffic (numbered 0 a.records)
 
 -- one layer, the test named once
 abbrev next_outcome : ℕ → ℕ → List (List ℕ) → Bool → List ℕ → List (Option (List ℕ))
@@ -69,10 +73,13 @@ never : (p : ℕ) (t : Traffic) (fs : List (List ℕ)) → (tally_from t (outcom
 never p t [] = refl
 never p t (f ∷ fs) = never 0 (Tallies.counted t true) fs ∙ omega arith
 
-pub kth_lost : (k : ℕ) (t : Traffic) (fs : List (List ℕ)) → t ≡ tally (outcomes (fresh k ∷ []) fs) → t.lost ≡ kth_of k t.put
-kth_lost zero t fs e = ap (λ u. u.lost) e ∙ never 0 no_traffic fs
-kth_lost (suc j) t fs e =
+kth_of_tally : (k : ℕ) (t : Traffic) (fs : List (List ℕ)) → t ≡ tally (outcomes (fresh k ∷ []) fs) → t.lost ≡ kth_of k t.put
+kth_of_tally zero t fs e = ap (λ u. u.lost) e ∙ never 0 no_traffic fs
+kth_of_tally (suc j) t fs e =
     let s = shares j 0 no_traffic fs (omega arith) in
     let n : t.put ≡ 0 + length fs = ap (λ u. u.put) e ∙ s.0 in
     let lost : t.lost ≡ t.put / suc j = ap (λ u. u.lost) e ∙ s.1 ∙ (omega arith) ∙ ap (λ x. x / suc j) (sym n) in
     lost ∙ sym (cond-false (eqb (suc j) 0) _ _ (ne_eqb (suc j) 0 (λ z. omega (arith, z))))
+
+pub kth_lost : (k : ℕ) {text : List ℕ} {t : Traffic} → Trial (fresh k ∷ []) text t → t.lost ≡ kth_of k t.put
+kth_lost k {t} a = kth_of_tally k t (numbered 0 a.records) a.tallied

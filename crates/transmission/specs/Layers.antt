@@ -27,10 +27,14 @@ after [] = []
 after (l ∷ ls) =
     record { every = l.every; passed = counted l.every l.passed } ∷ cond (dropped l.every l.passed) ls (after ls)
 
+-- what comes of the next put
+abbrev pub passed_on : List Layer → List ℕ → Option (List ℕ)
+passed_on ls f = cond (drops ls) None (Some f)
+
 -- what is taken after each put
 abbrev pub outcomes : List Layer → List (List ℕ) → List (Option (List ℕ))
 outcomes ls [] = []
-outcomes ls (f ∷ fs) = cond (drops ls) None (Some f) ∷ outcomes (after ls) fs
+outcomes ls (f ∷ fs) = passed_on ls f ∷ outcomes (after ls) fs
 
 -- the records at the front of a text, over these layers
 pub record Trial (ls : List Layer) (text : List ℕ) (t : Traffic) : Type 0 where

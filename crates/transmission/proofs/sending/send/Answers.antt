@@ -1,19 +1,14 @@
-use Rattle.std.proofs.Common.{◌≡◌, ◌-◌, take, replicate, ap, ◌∙◌, subst, arith}
-use Rattle.hdlc.specs.Messages.{information, frame}
+use Rattle.std.proofs.Common.{take, replicate, ap, ◌∙◌}
+use Rattle.hdlc.specs.Messages.{information}
 use Rattle.hdlc.specs.Numbers.{number_of}
 use Rattle.hdlc.proofs.Fronts.{encoded_front}
-use Rattle.transmission.specs.Sending.{SentOne}
 use Rattle.transmission.proofs.Sends.{sent_one}
 use Rattle.transmission.proofs.sending.send.Goals as goal
 
 pub returns : goal.returns
 returns g c =
-    let n = c.in-Ok.length in
     let m = information (number_of c.args.number) c.args.line.now in
-    let octets = c.encode.new.out in
-    let all : n - 0 ≡ n = omega arith in
-    let put : take (n - 0) octets ≡ frame m =
-    ap (λ k. take k octets) all ∙ ap (take n) c.in-Ok.ensures.buffer ∙ encoded_front m (replicate 269 0) n c.in-Ok.ensures.answer in
-    let b = c.in-Ok-put_then_take.ensures in
-    subst (λ f. SentOne g.L.Lane.waiting g.L.Lane.puts g.L.Lane.takes c.args.lane.now f c.is_some.result c.put_then_take.new.lane) put
-    (sent_one g.L.Lane.waiting g.L.Lane.puts g.L.Lane.takes _ _ _ _ _ c.in-Ok-put_then_take.taken _ c.is_some.ensures b.list.1 b.exact)
+    let sent = c.in-Ok.ensures in
+    let took = c.in-Ok-put_then_take.ensures in
+    rw (ap (take _) sent.buffer ∙ encoded_front m (replicate 269 0) _ sent.answer) at
+    (sent_one g.L.Lane _ _ _ _ _ c.in-Ok-put_then_take.taken _ c.is_some.ensures took.list.1 took.exact)

@@ -6,12 +6,12 @@ use Rattle.transmission.proofs.Progress.{far_begins, far_on, far_counts, line_fr
 use Rattle.transmission.proofs.sending.transmit.Goals as goal
 
 pub loop-entry-init : goal.loop-entry-init
-loop-entry-init g c = far_begins g.L.Lane.waiting g.L.Lane.puts g.L.Lane.takes _ _ _ _ c.new-traffic.ensures c.modulo-number.ensures
+loop-entry-init g c = far_begins g.L.Lane _ _ _ _ c.default-traffic.ensures c.modulo-number.ensures
 
 pub count-requires : goal.count-requires
 count-requires g c =
-    let h = far_counts g.L.Lane.waiting g.L.Lane.puts g.L.Lane.takes _ _ _ _ _ _ c.loop-entry.invariant in
-    (omega (arith, h.0), (omega (arith, h.1), omega (arith, h.2)))
+    let h = far_counts g.L.Lane _ _ _ _ _ _ c.loop-entry.invariant in
+    record { put = omega (arith, h.0); taken = omega (arith, h.1); lost = omega (arith, h.2) }
 
 pub loop-entry-preserved : goal.loop-entry-preserved
 loop-entry-preserved g c =
@@ -20,7 +20,7 @@ loop-entry-preserved g c =
     let r = content c.in-Ok.entry.record in
     let b = c.in-Ok.ensures.canonical in
     let all : n - 2 - 0 ≡ n - 2 = omega arith in
-    far_on g.L.Lane.waiting g.L.Lane.puts g.L.Lane.takes _ _ _ _ rest _ _ _ _ _ _ r _ c.loop-entry.invariant b.0
+    far_on g.L.Lane _ _ _ _ rest _ _ _ _ _ _ r _ c.loop-entry.invariant b.0
     (b.2 ∙ ap (λ xs. closed r ++ xs) (sym (take_rest rest n)))
     (ap (λ k. take k rest) all ∙ line_front r rest n b.1 b.2)
     c.count.ensures c.next-number.ensures c.send-came.ensures
