@@ -1,17 +1,12 @@
-use Rattle.std.proofs.Common.{◌≡◌, ◌-◌, ◌++◌, take, sym, ap, ◌∙◌, arith}
+use Rattle.std.proofs.Common.{◌≡◌, ◌-◌, ◌++◌, take, sym, ap, ◌∙◌, arith, rules}
 use Rattle.std.proofs.lemmas.List.{take_rest}
 use Rattle.ihex.specs.Meaning.{content}
 use Rattle.image.specs.Files.{closed}
-use Rattle.transmission.proofs.Progress.{far_begins, far_on, far_counts, line_front}
+use Rattle.transmission.proofs.Progress.{far_begins, far_on, far_ends, line_front}
 use Rattle.transmission.proofs.sending.transmit.Goals as goal
 
 pub loop-entry-init : goal.loop-entry-init
 loop-entry-init g c = far_begins g.L.Lane _ _ _ _ c.default-traffic.ensures c.modulo-number.ensures
-
-pub count-requires : goal.count-requires
-count-requires g c =
-    let h = far_counts g.L.Lane _ _ _ _ _ _ c.loop-entry.invariant in
-    record { put = omega (arith, h.0); taken = omega (arith, h.1); lost = omega (arith, h.2) }
 
 pub loop-entry-preserved : goal.loop-entry-preserved
 loop-entry-preserved g c =
@@ -24,3 +19,6 @@ loop-entry-preserved g c =
     (b.2 ∙ ap (λ xs. closed r ++ xs) (sym (take_rest rest n)))
     (ap (λ k. take k rest) all ∙ line_front r rest n b.1 b.2)
     c.count.ensures c.next-number.ensures c.send-came.ensures
+
+pub returns : goal.returns
+returns g c = far_ends g.L.Lane _ _ _ _ _ _ c.loop-entry.invariant (search rules)
