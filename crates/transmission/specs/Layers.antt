@@ -1,5 +1,5 @@
 -- losing layers over a slot lane: which frames come out, where one is taken after each put
-use Rattle.std.specs.Prelude.{◌≡◌, ℕ, ◌/◌, Bool, false, cond, ◌||◌, List, [], ◌∷◌, ◌++◌, is_ok, Some, None, Option, ◌==◌}
+use Rattle.std.specs.Prelude.{◌≡◌, ℕ, ◌+◌, ◌-◌, ◌/◌, Bool, false, cond, ◌||◌, List, [], ◌∷◌, ◌++◌, is_ok, Some, None, Option, ◌==◌}
 use Rattle.std.specs.List.{AllByRecursion}
 use Rattle.ihex.specs.Content.{Content, Sound}
 use Rattle.lane.specs.Drops.{counted, dropped}
@@ -48,3 +48,8 @@ pub record Trial (ls : List Layer) (text : List ℕ) (t : Traffic) : Type 0 wher
 -- every k-th of n is lost
 abbrev pub kth_of : ℕ → ℕ → ℕ
 kth_of k n = cond (k == 0) 0 (n / k)
+
+-- of n puts on layers that are new, with these k, the outermost first: each loses every k-th of what reaches it
+abbrev pub lost_of : List ℕ → ℕ → ℕ
+lost_of [] n = 0
+lost_of (k ∷ ks) n = kth_of k n + lost_of ks (n - kth_of k n)

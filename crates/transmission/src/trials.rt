@@ -1,7 +1,7 @@
 // Trials of the lanes that there are, each from the beginning.
 
-ghost use Rattle.std.specs.Prelude.{◌≡◌, ℕ, [], ◌∷◌, Some};
-ghost use Rattle.transmission.specs.Layers.{Trial, fresh, kth_of};
+ghost use Rattle.std.specs.Prelude.{◌≡◌, ℕ, List, [], map, Some};
+ghost use Rattle.transmission.specs.Layers.{Trial, fresh, lost_of};
 ghost use Rattle.transmission.specs.Prints.{trials_text};
 ghost use Rattle.transmission.specs.Tried.{Tried};
 
@@ -15,8 +15,7 @@ use std::fmt;
 // Sends the records at the front of a text over a lane, in which nothing waits.
 pub fn over<L: Stack + Drop>(mut lane: L, text: &[u8]) -> Traffic
     ensures trial { L.waiting lane ≡ [] → Trial (L.layers lane) text.now result }
-    ensures none_lost { L.waiting lane ≡ [] → L.layers lane ≡ [] → result.lost ≡ 0 }
-    ensures every_kth_lost { (k : ℕ) → L.waiting lane ≡ [] → L.layers lane ≡ fresh k ∷ [] → result.lost ≡ kth_of k result.put }
+    ensures lost { (ks : List ℕ) → L.waiting lane ≡ [] → L.layers lane ≡ map fresh ks → result.lost ≡ lost_of ks result.put }
 {
     transmit(&mut lane, text)
 }
