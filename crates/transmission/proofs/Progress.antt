@@ -45,8 +45,8 @@ module _ {S : Type 0} (lane : Lane S) where
     pub put : t.put + length rest ≤ length text
     pub each : t.taken + t.lost ≡ t.put
 
-  pub far_begins : (s : S) (text : List ℕ) (t : Traffic) (n : SequenceNumber) → (t.put ≡ 0) × ((t.taken ≡ 0) × (t.lost ≡ 0)) → number_of n ≡ 0 → SoFar s text t n text s
-  far_begins s text t n z h =
+  pub far_begins : {s : S} {text : List ℕ} {t : Traffic} {n : SequenceNumber} → (t.put ≡ 0) × ((t.taken ≡ 0) × (t.lost ≡ 0)) → number_of n ≡ 0 → SoFar s text t n text s
+  far_begins {s} {text} {t} {n} z h =
       let e : t ≡ no_traffic = λ i. record { put = z.0 i; taken = z.1.0 i; lost = z.1.1 i } in
       record {
         whole = λ u s'' a. subst (λ k. From k no_traffic s text u s'') h (subst (λ v. From (number_of n) v s text u s'') e a);
@@ -80,8 +80,8 @@ module _ {S : Type 0} (lane : Lane S) where
     each = omega (arith, ap (λ v. v.put) counts, ap (λ v. v.taken) counts, ap (λ v. v.lost) counts, a.each, one_of came);
   }
 
-  pub far_ends : (s s' : S) (text rest : List ℕ) (t : Traffic) (n : SequenceNumber) → SoFar s text t n rest s' → is_ok (first_record rest) ≡ false → Transmitted lane s text t s'
-  far_ends s s' text rest t n a e =
+  pub far_ends : {s s' : S} {text rest : List ℕ} {t : Traffic} {n : SequenceNumber} → SoFar s text t n rest s' → is_ok (first_record rest) ≡ false → Transmitted lane s text t s'
+  far_ends {s'} {rest} {t} a e =
       let b = a.whole t s' (record {
         records = [];
         rest = rest;

@@ -1,9 +1,10 @@
 -- how many of the puts the layers lose
-use Rattle.std.proofs.Common.{◌≡◌, ℕ, zero, suc, ◌+◌, ◌-◌, ◌/◌, ◌%◌, ◌<◌, ◌≤◌, Bool, true, false, cond, ◌||◌, eqb, List, [], ◌∷◌, map, length, is_some, Some, None, refl, ap, ◌∙◌, arith, ⊎_elim, mod-eq_of_lt}
+use Rattle.std.proofs.Common.{◌≡◌, ℕ, zero, suc, ◌+◌, ◌-◌, ◌/◌, ◌%◌, ◌<◌, ◌≤◌, Bool, true, false, cond, ◌||◌, eqb, List, [], ◌∷◌, length, is_some, Some, None, refl, ap, ◌∙◌, arith, ⊎_elim, mod-eq_of_lt}
 use native.Mathlib.Nat.{add-div_left, div-eq_of_lt, mod_self}
 use Rattle.std.proofs.lemmas.Bool.{cases_eq, ne_eqb}
+use Rattle.std.specs.List.{AllByRecursion}
 use Rattle.lane.specs.Drops.{counted, dropped}
-use Rattle.transmission.specs.Layers.{Layer, drops, after, passed_on, fresh, outcomes, Trial, kth_of, lost_of}
+use Rattle.transmission.specs.Layers.{Layer, drops, after, passed_on, IsFresh, outcomes, Trial, kth_of, lost_of}
 use Rattle.transmission.specs.Sending.{numbered}
 use Rattle.transmission.specs.Tallies.{tally_from, no_traffic}
 use Rattle.transmission.specs.Tallies
@@ -39,8 +40,8 @@ next_by (l ∷ ls) n =
     let one : suc n - (1 + d) ≡ n - d = omega arith in
     let none : suc n - (0 + d) ≡ suc (n - d) = omega arith in
     elim (dropped l.every l.passed) as (λ b. (cond b 1 0 + d) + lost_by ls (suc n - (cond b 1 0 + d)) ≡ cond (b || drops ls) 1 0 + (d + lost_by (cond b ls (after ls)) (n - d))) [
-      true ↦ omega (arith, ap (lost_by ls) one)
-    | false ↦ omega (arith, ap (lost_by ls) none, next_by ls (n - d))
+      | true ↦ omega (arith, ap (lost_by ls) one)
+      | false ↦ omega (arith, ap (lost_by ls) none, next_by ls (n - d))
     ]
 
 lost_one : (b : Bool) (f : List ℕ) → cond {A = ℕ} (is_some (cond b None (Some f))) 0 1 ≡ cond b 1 0
@@ -83,13 +84,15 @@ kth : (k n : ℕ) → losses k 0 n ≡ kth_of k n
 kth zero n = never 0 n
 kth (suc j) n = rw (divisor j) (losses_are j 0 n (omega arith) ∙ ap (λ x. x / suc j) (omega arith))
 
-fresh_by : (ks : List ℕ) (n : ℕ) → lost_by (map fresh ks) n ≡ lost_of ks n
-fresh_by [] n = refl
-fresh_by (k ∷ ks) n = rw kth (ap (λ m. kth_of k n + m) (fresh_by ks (n - kth_of k n)))
+fresh_by : (ls : List Layer) (n : ℕ) → AllByRecursion IsFresh ls → lost_by ls n ≡ lost_of ls n
+fresh_by [] n all = refl
+fresh_by (l ∷ ls) n (new, all) =
+    let own : losses l.every l.passed n ≡ kth_of l.every n = rw new (kth l.every n) in
+    rw own (ap (λ m. kth_of l.every n + m) (fresh_by ls (n - kth_of l.every n) all))
 
-pub lost : (ks : List ℕ) {text : List ℕ} {t : Traffic} → Trial (map fresh ks) text t → t.lost ≡ lost_of ks t.put
-lost ks {t} a =
+pub lost : {ls : List Layer} {text : List ℕ} {t : Traffic} → AllByRecursion IsFresh ls → Trial ls text t → t.lost ≡ lost_of ls t.put
+lost {ls} {t} new a =
     let fs = numbered 0 a.records in
-    let h = rw (← a.tallied) at (tallied (map fresh ks) no_traffic fs) in
+    let h = rw (← a.tallied) at (tallied ls no_traffic fs) in
     let put : length fs ≡ t.put = omega (arith, h.0) in
-    omega (arith, h.1, fresh_by ks (length fs), ap (lost_of ks) put)
+    omega (arith, h.1, fresh_by ls (length fs) new, ap (lost_of ls) put)

@@ -49,7 +49,11 @@ pub record Trial (ls : List Layer) (text : List ℕ) (t : Traffic) : Type 0 wher
 abbrev pub kth_of : ℕ → ℕ → ℕ
 kth_of k n = cond (k == 0) 0 (n / k)
 
--- of n puts on layers that are new, with these k, the outermost first: each loses every k-th of what reaches it
-abbrev pub lost_of : List ℕ → ℕ → ℕ
+-- a layer that has seen no put
+abbrev pub IsFresh : Layer → Type 0
+IsFresh l = l.passed ≡ 0
+
+-- of n puts on such layers: each loses every k-th of those that reach it
+abbrev pub lost_of : List Layer → ℕ → ℕ
 lost_of [] n = 0
-lost_of (k ∷ ks) n = kth_of k n + lost_of ks (n - kth_of k n)
+lost_of (l ∷ ls) n = kth_of l.every n + lost_of ls (n - kth_of l.every n)

@@ -1,6 +1,7 @@
 -- losing layers over a slot lane hand out at once what they do not drop
 use Rattle.std.specs.Prelude.{◌≡◌, ℕ, Bool, true, false, cond, ◌||◌, List, [], ◌∷◌, Some, None, MatchBool, Option, refl}
 use Rattle.std.proofs.Common.{ap, ◌∙◌, subst}
+use Rattle.std.specs.Option.{option_to_list}
 use Rattle.lane.specs.Calls.{Passes}
 use Rattle.lane.specs.Drops.{dropped, LayerPuts, LayerTakes}
 use Rattle.lane.specs.declared.interface.Lane.{Ghosts as Lane}
@@ -30,18 +31,17 @@ no_layers s = []
 abbrev slot_lane : Lane SlotLane
 slot_lane = record { waiting = in_slots; puts = SlotPuts; takes = SlotTakes }
 
-pub slots_prompt : Prompt slot_lane no_layers
-slots_prompt = record { idle = idle; busy = busy }
-  where
-    idle : (s s' : SlotLane) (o : Option (List ℕ)) → in_slots s ≡ [] → SlotTakes s o s' → Leaves slot_lane no_layers o None s' []
-    idle s s' None h (e, v) = record { outcome = refl; empty = ap waits v ∙ e; counts = refl }
-    idle s s' (Some f) h (e, v) = cc
+slots_take : (m s' : SlotLane) (x o : Option (List ℕ)) → in_slots m ≡ option_to_list x → SlotTakes m o s' → Leaves slot_lane no_layers o x s' []
+slots_take m s' None None h (e, v) = record { outcome = refl; empty = ap waits v ∙ e; counts = refl }
+slots_take m s' None (Some g) h (e, v) = cc
+slots_take m s' (Some f) None h (e, v) = cc
+slots_take m s' (Some f) (Some g) h (e, v) = record { outcome = cc; empty = cc; counts = refl }
 
-    busy : (s s' : SlotLane) (f : List ℕ) (o : Option (List ℕ)) → in_slots s ≡ [] → Passes SlotPuts SlotTakes s f o s' → Leaves slot_lane no_layers o (Some f) s' []
-    busy s s' f None h (m, p, (e, v)) = let only : in_slots m ≡ f ∷ [] = p.queue ∙ ap (queued f) h in cc
-    busy s s' f (Some g) h (m, p, (e, v)) =
-        let only : in_slots m ≡ f ∷ [] = p.queue ∙ ap (queued f) h in
-        record { outcome = cc; empty = cc; counts = refl }
+pub slots_prompt : Prompt slot_lane no_layers
+slots_prompt = record {
+  idle = λ s s' o h t. slots_take s s' None o h t;
+  busy = λ s s' f o h (m, p, t). slots_take m s' (Some f) o (p.queue ∙ ap (queued f) h) t;
+}
 
 -- a layer over others
 abbrev pub layer_over : {S : Type 0} → (S → List Layer) → Losing S → List Layer
@@ -57,15 +57,9 @@ module _ {S : Type 0} {lane : Lane S} {layers : S → List Layer} (below : Promp
   by_drop false s m s' f o h p t = below.busy s s' f o h (m, p, t)
 
   pub losing_prompt : Prompt (losing lane) (layer_over layers)
-  losing_prompt = record { idle = idle; busy = busy }
-    where
-      idle : (s s' : Losing S) (o : Option (List ℕ)) → lane.waiting s.below ≡ [] → LayerTakes lane.takes s o s' → Leaves (losing lane) (layer_over layers) o None s' (layer_over layers s)
-      idle s s' o h (k, p, t) =
-          let i = below.idle s.below s'.below o h t in
-          record { outcome = i.outcome; empty = i.empty; counts = cc }
-
-      busy : (s s' : Losing S) (f : List ℕ) (o : Option (List ℕ)) → lane.waiting s.below ≡ [] → Passes (LayerPuts lane.puts) (LayerTakes lane.takes) s f o s'
-          → Leaves (losing lane) (layer_over layers) o (passed_on (layer_over layers s) f) s' (after (layer_over layers s))
-      busy s s' f o h (m, (k, p, w), (k', p', t)) =
-          let i = by_drop (dropped s.every s.passed) s.below m.below s'.below f o h w t in
-          record { outcome = i.outcome; empty = i.empty; counts = cc }
+  losing_prompt = record {
+    idle = λ s s' o h t. let i = below.idle s.below s'.below o h t.2 in record { outcome = i.outcome; empty = i.empty; counts = cc };
+    busy = λ s s' f o h (m, p, t).
+        let i = by_drop (dropped s.every s.passed) s.below m.below s'.below f o h p.2 t.2 in
+        record { outcome = i.outcome; empty = i.empty; counts = cc };
+  }

@@ -1,7 +1,8 @@
 // Trials of the lanes that there are, each from the beginning.
 
-ghost use Rattle.std.specs.Prelude.{◌≡◌, ℕ, List, [], map, Some};
-ghost use Rattle.transmission.specs.Layers.{Trial, fresh, lost_of};
+ghost use Rattle.std.specs.Prelude.{◌≡◌, [], Some};
+ghost use Rattle.std.specs.List.{AllByRecursion};
+ghost use Rattle.transmission.specs.Layers.{Trial, IsFresh, lost_of};
 ghost use Rattle.transmission.specs.Prints.{trials_text};
 ghost use Rattle.transmission.specs.Tried.{Tried};
 
@@ -15,7 +16,7 @@ use std::fmt;
 // Sends the records at the front of a text over a lane, in which nothing waits.
 pub fn over<L: Stack + Drop>(mut lane: L, text: &[u8]) -> Traffic
     ensures trial { L.waiting lane ≡ [] → Trial (L.layers lane) text.now result }
-    ensures lost { (ks : List ℕ) → L.waiting lane ≡ [] → L.layers lane ≡ map fresh ks → result.lost ≡ lost_of ks result.put }
+    ensures lost { L.waiting lane ≡ [] → AllByRecursion IsFresh (L.layers lane) → result.lost ≡ lost_of (L.layers lane) result.put }
 {
     transmit(&mut lane, text)
 }

@@ -6,7 +6,7 @@ use Rattle.transmission.proofs.Progress.{far_begins, far_on, far_ends, line_fron
 use Rattle.transmission.proofs.sending.transmit.Goals as goal
 
 pub loop-entry-init : goal.loop-entry-init
-loop-entry-init g c = far_begins g.L.Lane _ _ _ _ c.default-traffic.ensures c.modulo-number.ensures
+loop-entry-init g c = far_begins _ c.default-traffic.ensures c.modulo-number.ensures
 
 pub loop-entry-preserved : goal.loop-entry-preserved
 loop-entry-preserved g c =
@@ -21,4 +21,4 @@ loop-entry-preserved g c =
     c.count.ensures c.next-number.ensures c.send-came.ensures
 
 pub returns : goal.returns
-returns g c = far_ends g.L.Lane _ _ _ _ _ _ c.loop-entry.invariant (search rules)
+returns g c = far_ends _ c.loop-entry.invariant (search rules)
