@@ -1,5 +1,5 @@
 -- how far a transmission has come
-use Rattle.std.proofs.Common.{◌≡◌, ℕ, ◌+◌, ◌-◌, ◌≤◌, Bool, true, false, cond, List, [], ◌∷◌, ◌++◌, length, take, drop, is_ok, Option, sym, refl, ap, ◌∙◌, subst, arith, append_assoc, append-nil}
+use Rattle.std.proofs.Common.{◌≡◌, ℕ, ◌+◌, ◌-◌, ◌≤◌, Bool, true, false, cond, List, [], ◌∷◌, ◌++◌, length, take, drop, is_ok, Option, sym, refl, ap, ◌∙◌, arith, append_assoc, append-nil}
 use Rattle.std.proofs.lemmas.List.{length-append, take_at}
 use Rattle.std.specs.List.{AllByRecursion}
 use Rattle.std.specs.Option.{option_to_list}
@@ -22,7 +22,8 @@ line_front r t n e h =
     ap (take (n - 2)) (h ∙ append_assoc (line r) (13 ∷ 10 ∷ []) (drop n t))
     ∙ take_at (line r) _ (n - 2) (omega (arith, length-append (line r) (13 ∷ 10 ∷ [])))
 
-one_of : (b : Bool) → cond b 1 0 + cond b 0 1 ≡ 1
+-- one count more, and not the other
+pub one_of : (b : Bool) → cond b 1 0 + cond b 0 1 ≡ 1
 one_of true = refl
 one_of false = refl
 
@@ -49,7 +50,7 @@ module _ {S : Type 0} (lane : Lane S) where
   far_begins {s} {text} {t} {n} z h =
       let e : t ≡ no_traffic = λ i. record { put = z.0 i; taken = z.1.0 i; lost = z.1.1 i } in
       record {
-        whole = λ u s'' a. subst (λ k. From k no_traffic s text u s'') h (subst (λ v. From (number_of n) v s text u s'') e a);
+        whole = λ u s'' a. rw (h, e) at a;
         put = omega arith;
         each = omega arith;
       }
@@ -58,7 +59,7 @@ module _ {S : Type 0} (lane : Lane S) where
   more : (m s' s'' : S) (rest rest' xs : List ℕ) (t u : Traffic) (n : ℕ) (r : Content) (came : Bool) → Sound r → rest ≡ closed r ++ rest' → xs ≡ line r
       → SentOne lane m (frame (information n xs)) came s' → From (next_number n) (counted t came) s' rest' u s'' → From n t m rest u s''
   more m s' s'' rest rest' xs t u n r came sound begins is_line sent a =
-      let b : SentOne lane m (frame (information n (line r))) came s' = subst (λ ys. SentOne lane m (frame (information n ys)) came s') is_line sent in
+      let b = rw is_line at sent in
       record {
         records = r ∷ a.records;
         rest = a.rest;

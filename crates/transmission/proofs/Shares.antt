@@ -8,6 +8,7 @@ use Rattle.transmission.specs.Layers.{Layer, drops, after, passed_on, IsFresh, o
 use Rattle.transmission.specs.Sending.{numbered}
 use Rattle.transmission.specs.Tallies.{tally_from, no_traffic}
 use Rattle.transmission.specs.Tallies
+use Rattle.transmission.proofs.Progress.{one_of}
 use Rattle.transmission.specs.declared.traffic.Traffic.{Traffic}
 
 -- of n puts on a layer
@@ -20,13 +21,9 @@ abbrev lost_by : List Layer → ℕ → ℕ
 lost_by [] n = 0
 lost_by (l ∷ ls) n = losses l.every l.passed n + lost_by ls (n - losses l.every l.passed n)
 
-at_most_one : (b : Bool) → cond b 1 0 ≤ 1
-at_most_one true = omega arith
-at_most_one false = omega arith
-
 losses_below : (k p n : ℕ) → losses k p n ≤ n
 losses_below k p zero = omega arith
-losses_below k p (suc n) = omega (arith, at_most_one (dropped k p), losses_below k (counted k p) n)
+losses_below k p (suc n) = omega (arith, one_of (dropped k p), losses_below k (counted k p) n)
 
 none_by : (ls : List Layer) → lost_by ls 0 ≡ 0
 none_by [] = refl
