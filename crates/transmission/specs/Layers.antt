@@ -49,7 +49,7 @@ pub record Trial (ls : List Layer) (text : List ℕ) (t : Traffic) : Type 0 wher
 abbrev pub kth_of : ℕ → ℕ → ℕ
 kth_of k n = cond (k == 0) 0 (n / k)
 
--- a layer that has seen no put
+-- a layer whose count stands at 0, as a new one's
 abbrev pub IsFresh : Layer → Type 0
 IsFresh l = l.passed ≡ 0
 

@@ -13,7 +13,7 @@ use lane::Losing;
 use slots::SlotLane;
 use std::fmt;
 
-// Sends the records at the front of a text over a lane, in which nothing waits.
+// Sends the records at the front of a text over a lane. The promises are of one in which nothing waits.
 pub fn over<L: Stack + Drop>(mut lane: L, text: &[u8]) -> Traffic
     ensures trial { L.waiting lane ≡ [] → Trial (L.layers lane) text.now result }
     ensures lost { L.waiting lane ≡ [] → AllByRecursion IsFresh (L.layers lane) → result.lost ≡ lost_of (L.layers lane) result.put }
