@@ -1,4 +1,3 @@
-pub mod Sends
 pub mod Progress
 pub mod Prompt
 pub mod Shares

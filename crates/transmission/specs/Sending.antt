@@ -7,6 +7,7 @@ use Rattle.hdlc.specs.Messages.{information, frame}
 use Rattle.hdlc.specs.Numbers.{next_number}
 use Rattle.lane.specs.Calls.{Passes}
 use Rattle.lane.specs.Worn.{Worn}
+use Rattle.lane.specs.declared.interface.Lane.{Ghosts as Lane}
 use Rattle.image.specs.Files.{file, first_record}
 use Rattle.transmission.specs.Tallies.{tally}
 use Rattle.transmission.specs.declared.traffic.Traffic.{Traffic}
@@ -20,24 +21,25 @@ numbered n (r ∷ rs) = frame (information n (line r)) ∷ numbered (next_number
 abbrev pub received : List (Option (List ℕ)) → List (List ℕ)
 received os = flat_map option_to_list os
 
--- each frame is put, and then one is taken if it comes, as this very lane does it
-pub data Sends {S : Type 0} (puts : S → List ℕ → S → Type 0) (takes : S → Option (List ℕ) → S → Type 0) : S → List (List ℕ) → List (Option (List ℕ)) → S → Type 0 where
-  none : {s : S} → Sends puts takes s [] [] s
-  one : {s m s' : S} {f : List ℕ} {fs : List (List ℕ)} {o : Option (List ℕ)} {os : List (Option (List ℕ))} → Passes puts takes s f o m → Sends puts takes m fs os s' → Sends puts takes s (f ∷ fs) (o ∷ os) s'
+-- over a lane, by its ghost members
+module _ {S : Type 0} (lane : Lane S) where
+  -- each frame is put, and then one is taken if it comes, as this very lane does it
+  pub data Sends : S → List (List ℕ) → List (Option (List ℕ)) → S → Type 0 where
+    none : {s : S} → Sends s [] [] s
+    one : {s m s' : S} {f : List ℕ} {fs : List (List ℕ)} {o : Option (List ℕ)} {os : List (Option (List ℕ))} → Passes lane.puts lane.takes s f o m → Sends m fs os s' → Sends s (f ∷ fs) (o ∷ os) s'
 
-module _ {S : Type 0} (waiting : S → List (List ℕ)) (puts : S → List ℕ → S → Type 0) (takes : S → Option (List ℕ) → S → Type 0) where
   -- one frame, and whether one came
   pub record SentOne (s : S) (f : List ℕ) (came : Bool) (s' : S) : Type 0 where
     pub outcome : Option (List ℕ)
     pub tells : came ≡ is_some outcome
-    pub passes : Passes puts takes s f outcome s'
-    pub worn : Worn (waiting s ++ f ∷ []) (option_to_list outcome ++ waiting s')
+    pub passes : Passes lane.puts lane.takes s f outcome s'
+    pub worn : Worn (lane.waiting s ++ f ∷ []) (option_to_list outcome ++ lane.waiting s')
 
   -- what came, followed by what still waits, is a worn copy of what waited, followed by what was put
   pub record Sent (s : S) (fs : List (List ℕ)) (t : Traffic) (s' : S) : Type 0 where
     pub outcomes : List (Option (List ℕ))
-    pub sends : Sends puts takes s fs outcomes s'
-    pub worn : Worn (waiting s ++ fs) (received outcomes ++ waiting s')
+    pub sends : Sends s fs outcomes s'
+    pub worn : Worn (lane.waiting s ++ fs) (received outcomes ++ lane.waiting s')
     pub tallied : t ≡ tally outcomes
 
   -- the records at the front of a text, up to the first line that is none

@@ -2,9 +2,11 @@
 #![tactic(auto)]
 
 mod sending;
+mod stack;
 mod traffic;
 mod trials;
 
 pub use sending::transmit;
+pub use stack::Stack;
 pub use traffic::Traffic;
-pub use trials::{Trials, over_losing, over_slots, over_two};
+pub use trials::{Trials, over};

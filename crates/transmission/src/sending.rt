@@ -11,7 +11,7 @@ use lane::{Lane, MAX_FRAME, put_then_take};
 // Puts a line on a lane as an I frame, and answers whether a frame could then be taken.
 fn send<L: Lane>(lane: &mut L, number: SequenceNumber, line: &[u8]) -> bool
     requires { length line.now ≤ 267 }
-    ensures { SentOne L.waiting L.puts L.takes lane.old (frame (information (number_of number) line.now)) result lane.new }
+    ensures { SentOne L.Lane lane.old (frame (information (number_of number) line.now)) result lane.new }
 {
     let mut octets = [0; MAX_FRAME];
     let frame = Frame::Information {
@@ -19,21 +19,21 @@ fn send<L: Lane>(lane: &mut L, number: SequenceNumber, line: &[u8]) -> bool
         information: line,
     };
     let Ok(length) = frame.encode(&mut octets) else {
-        return unreachable();
+        unreachable!()
     };
     let mut buffer = [0; MAX_FRAME];
-    match put_then_take(lane, &octets[0..length], &mut buffer) {
-        Ok(taken) => taken.is_some(),
-        Err(_) => unreachable(),
-    }
+    let Ok(taken) = put_then_take(lane, &octets[..length], &mut buffer) else {
+        unreachable!()
+    };
+    taken.is_some()
 }
 
 // Sends the records at the front of a text over a lane, up to the first line that is none:
 // each as an I frame, numbered from 0 on, and after each put a frame is taken if one comes.
 pub fn transmit<L: Lane>(lane: &mut L, text: &[u8]) -> Traffic
-    ensures { Transmitted L.waiting L.puts L.takes lane.old text.now result lane.new }
+    ensures { Transmitted L.Lane lane.old text.now result lane.new }
 {
-    let mut traffic = Traffic::new();
+    let mut traffic = Traffic::default();
     let mut number = SequenceNumber::modulo(0);
     let mut rest = text;
     while let Ok(entry) = next_record(rest) {

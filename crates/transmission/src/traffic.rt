@@ -1,11 +1,11 @@
 ghost use Rattle.std.specs.Prelude.{◌≡◌, ◌+◌, ◌^◌, ◌<◌, Some};
 ghost use Rattle.transmission.specs.Prints.{traffic_text};
-ghost use Rattle.transmission.specs.Tallies.{no_traffic, counted};
+ghost use Rattle.transmission.specs.Tallies.{counted};
 
 use std::fmt;
 
 // What a lane was given, and what came of it.
-#[derive(Clone, Copy, PartialEq, Eq, Debug)]
+#[derive(Clone, Copy, PartialEq, Eq, Default, Debug)]
 pub struct Traffic {
     // frames put
     pub put: usize,
@@ -16,19 +16,11 @@ pub struct Traffic {
 }
 
 impl Traffic {
-    pub(crate) fn new() -> Self
-        ensures { result ≡ no_traffic }
-    {
-        Traffic {
-            put: 0,
-            taken: 0,
-            lost: 0,
-        }
-    }
-
     // Counts one put more, after which a frame came or did not.
     pub(crate) fn count(&mut self, came: bool)
-        requires { (self.old.put + 1 < 2 ^ 64) × ((self.old.taken + 1 < 2 ^ 64) × (self.old.lost + 1 < 2 ^ 64)) }
+        requires put { self.old.put + 1 < 2 ^ 64 }
+        requires taken { self.old.taken + 1 < 2 ^ 64 }
+        requires lost { self.old.lost + 1 < 2 ^ 64 }
         ensures { self.new ≡ counted self.old came }
     {
         self.put += 1;

@@ -1,41 +1,30 @@
 // Trials of the lanes that there are, each from the beginning.
 
-ghost use Rattle.std.specs.Prelude.{◌≡◌, [], ◌∷◌, Some};
-ghost use Rattle.transmission.specs.Layers.{Trial, fresh, kth_of};
+ghost use Rattle.std.specs.Prelude.{◌≡◌, [], Some};
+ghost use Rattle.std.specs.List.{AllByRecursion};
+ghost use Rattle.transmission.specs.Layers.{Trial, IsFresh, lost_of};
 ghost use Rattle.transmission.specs.Prints.{trials_text};
 ghost use Rattle.transmission.specs.Tried.{Tried};
 
 use crate::sending::transmit;
+use crate::stack::Stack;
 use crate::traffic::Traffic;
 use lane::Losing;
 use slots::SlotLane;
 use std::fmt;
 
-// Over a slot lane.
-pub fn over_slots(text: &[u8]) -> Traffic
-    ensures trial { Trial [] text.now result }
-    ensures none_lost { result.lost ≡ 0 }
+// Sends the records at the front of a text over a lane. The promises are of one in which nothing waits.
+pub fn over<L: Stack + Drop>(mut lane: L, text: &[u8]) -> Traffic
+    ensures trial { L.waiting lane ≡ [] → Trial (L.layers lane) text.now result }
+    ensures lost { L.waiting lane ≡ [] → AllByRecursion IsFresh (L.layers lane) → result.lost ≡ lost_of (L.layers lane) result.put }
 {
-    let mut lane = SlotLane::new();
     transmit(&mut lane, text)
 }
 
-// Over a layer that drops every `every`-th put.
-pub fn over_losing(text: &[u8], every: u8) -> Traffic
-    ensures trial { Trial (fresh every ∷ []) text.now result }
-    ensures every_kth_lost { result.lost ≡ kth_of every result.put }
-{
-    let mut lane = Losing::new(SlotLane::new(), every);
-    transmit(&mut lane, text)
-}
+// The puts that the layers drop: the inner one every 10th, the outer one every 7th.
+const INNER: u8 = 10;
 
-// Over two such layers.
-pub fn over_two(text: &[u8], outer: u8, inner: u8) -> Traffic
-    ensures { Trial (fresh outer ∷ fresh inner ∷ []) text.now result }
-{
-    let mut lane = Losing::new(Losing::new(SlotLane::new(), inner), outer);
-    transmit(&mut lane, text)
-}
+const OUTER: u8 = 7;
 
 // A trial of each lane.
 #[derive(Clone, Copy)]
@@ -54,9 +43,12 @@ impl Trials {
         ensures { Tried text.now result }
     {
         Trials {
-            slots: over_slots(text),
-            losing: over_losing(text, 10),
-            layered: over_two(text, 7, 10),
+            slots: over(SlotLane::new(), text),
+            losing: over(Losing::new(SlotLane::new(), INNER), text),
+            layered: over(
+                Losing::new(Losing::new(SlotLane::new(), INNER), OUTER),
+                text,
+            ),
         }
     }
 }
