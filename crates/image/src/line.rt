@@ -21,7 +21,11 @@ pub fn next_line(text: &[u8]) -> Result<Line<'_>, ImageFault>
     ensures whole { IfOk result (λ l. text.now ≡ l.text.now ++ 13 ∷ 10 ∷ l.rest.now) }
     ensures few { IfOk result (λ l. length l.text.now ≤ 267) }
 {
-    let Some(end) = text.windows(2).take(MAX_LINE + 1).position(|pair| matches!(pair, b"\r\n")) else {
+    let Some(end) = text
+        .windows(2)
+        .take(MAX_LINE + 1)
+        .position(|pair| matches!(pair, b"\r\n"))
+    else {
         return Err(ImageFault::Line);
     };
     Ok(Line {

@@ -35,6 +35,9 @@ impl fmt::Display for Offsets {
     #[tactic(auto, using(crate::proofs::Hexadecimal::hex_word))]
     fn fmt<W: fmt::Write>(&self, f: &mut fmt::Formatter<W>) -> fmt::Result {
         let Offsets { lowest, highest } = *self;
-        write!(f, "lowest offset: {lowest:04X}h\nhighest offset: {highest:04X}h")
+        write!(
+            f,
+            "lowest offset: {lowest:04X}h\nhighest offset: {highest:04X}h"
+        )
     }
 }

@@ -15,7 +15,7 @@ returns-clause-writes g c plain ok =
       | in-Some+in_ok-write-in-Some w ↦ search rules
       | in-None+in_ok-write-in-None w ↦ search rules
     ] in
-    let three : HasWritten g.W.Write.write_str_gives c.match-offsets.f (codes "\nend record: " ++ cond s.ended (codes "yes") (codes "no")) c.write-2.new.self = 
+    let three : HasWritten g.W.Write.write_str_gives c.match-offsets.f (codes "\nend record: " ++ cond s.ended (codes "yes") (codes "no")) c.write-2.new.self =
     elim c.if-ended.branch [
       | then-ended w ↦ search rules
       | else-ended w ↦ search rules
