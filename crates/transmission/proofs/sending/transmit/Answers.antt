@@ -1,8 +1,6 @@
-use Rattle.std.proofs.Common.{◌≡◌, ◌-◌, ◌++◌, take, sym, ap, ◌∙◌, arith}
-use Rattle.std.proofs.lemmas.List.{take_rest}
+use Rattle.std.proofs.Common.{arith}
 use Rattle.ihex.specs.Meaning.{content}
-use Rattle.image.specs.Files.{closed}
-use Rattle.transmission.proofs.Progress.{far_begins, far_on, far_counts, line_front}
+use Rattle.transmission.proofs.Progress.{far_begins, far_on, far_counts}
 use Rattle.transmission.proofs.sending.transmit.Goals as goal
 
 pub loop-entry-init : goal.loop-entry-init
@@ -15,12 +13,6 @@ count-requires g c =
 
 pub loop-entry-preserved : goal.loop-entry-preserved
 loop-entry-preserved g c =
-    let rest = c.loop-entry.rest.now in
-    let n = c.in-Ok.entry.size in
-    let r = content c.in-Ok.entry.record in
     let b = c.in-Ok.ensures.canonical in
-    let all : n - 2 - 0 ≡ n - 2 = omega arith in
-    far_on g.L.Lane.waiting g.L.Lane.puts g.L.Lane.takes _ _ _ _ rest _ _ _ _ _ _ r _ c.loop-entry.invariant b.0
-    (b.2 ∙ ap (λ xs. closed r ++ xs) (sym (take_rest rest n)))
-    (ap (λ k. take k rest) all ∙ line_front r rest n b.1 b.2)
-    c.count.ensures c.next-number.ensures c.send-came.ensures
+    far_on g.L.Lane.waiting g.L.Lane.puts g.L.Lane.takes _ _ _ _ _ _ _ _ _ _ _ (content c.in-Ok.entry.record) _ c.loop-entry.invariant
+    b.0 b.2 b.1 c.count.ensures c.next-number.ensures c.send-came.ensures
