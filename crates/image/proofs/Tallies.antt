@@ -1,13 +1,12 @@
 -- tallies of the records of a file, and how far a survey has come
-use Rattle.std.proofs.Common.{◌≡◌, ℕ, ◌+◌, ◌*◌, ◌≤◌, List, [], ◌∷◌, ◌++◌, length, Ok, Err, sym, refl, ap, ◌∙◌, arith}
+use Rattle.std.proofs.Common.{◌≡◌, ℕ, ◌+◌, ◌*◌, ◌≤◌, List, [], ◌∷◌, ◌++◌, length, Ok, sym, refl, ap, ◌∙◌, arith}
 use Rattle.std.proofs.ByRecursion.{All-push}
-use Rattle.std.proofs.lemmas.List.{append_assoc, append-nil, flat_map_more, length-append, length_push}
+use Rattle.std.proofs.lemmas.List.{append_assoc, flat_map_more, length-append, length_push}
 use Rattle.std.specs.List.{AllByRecursion}
 use Rattle.ihex.specs.Content.{Content, data_at, end_of_file, line, Sound}
 use Rattle.ihex.proofs.WriteSteps.{line_length}
-use Rattle.image.specs.Files.{Head, closed, file, first_record, Begins}
-use Rattle.image.specs.Surveys.{bytes_in, added, tally, tally_from, nothing_yet, Surveyed}
-use Rattle.image.specs.declared.fault.ImageFault.{ImageFault}
+use Rattle.image.specs.Files.{Head, closed, file, Begins}
+use Rattle.image.specs.Surveys.{bytes_in, added, tally, tally_from, nothing_yet}
 use Rattle.image.specs.declared.survey.Survey.{Survey}
 
 tally_push : (s : Survey) (rs : List Content) (r : Content) → tally_from s (rs ++ r ∷ []) ≡ added (tally_from s rs) r
@@ -57,21 +56,17 @@ module _ (text : List ℕ) (s : Survey) (rest : List ℕ) (line : ℕ) (a : SoFa
     counted = omega (arith, a.counted, length_push a.records h.content);
   }
 
+  pub so_far_lines : 13 * line + length rest ≤ length text + 13
+  so_far_lines = omega (arith, a.counted, file_lines a.records, ap length a.begins, length-append (file a.records) rest)
+
   -- no count passes the text's length
   pub so_far_fits : (h : Head) → Begins rest (Ok h)
-      → (line + length rest ≤ length text + 1) × (s.records + length rest ≤ length text) × (s.bytes + bytes_in h.content ≤ length text)
+      → (s.records + length rest ≤ length text) × (s.bytes + bytes_in h.content ≤ length text)
   so_far_fits h b =
       let rs = a.records in
       let low = tally_below nothing_yet rs in
       let all = ap length a.begins ∙ length-append (file rs) rest in
       let one = ap length b.2 ∙ length-append (closed h.content) h.rest in (
-        omega (arith, a.counted, file_lines rs, all),
         omega (arith, ap (λ u. u.records) a.tallied, low.0, file_lines rs, all),
         omega (arith, ap (λ u. u.bytes) a.tallied, low.1, all, one, closed_long h.content),
       )
-
-  pub so_far_refused : (f : ImageFault) → 1 ≤ length rest → Err f ≡ first_record rest → Surveyed text (Err (record { line = line; fault = f }))
-  so_far_refused f some e = (a.records, rest, a.sound, a.begins, some, a.counted, sym e)
-
-  pub so_far_whole : rest ≡ [] → Surveyed text (Ok s)
-  so_far_whole none = (a.records, a.sound, a.begins ∙ ap (λ xs. file a.records ++ xs) none ∙ append-nil (file a.records), a.tallied)

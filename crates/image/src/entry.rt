@@ -1,6 +1,8 @@
 ghost use Rattle.std.specs.Prelude.{◌≡◌, ◌+◌, ◌≤◌, length, IfOk};
+ghost use Rattle.std.specs.Iterator.{at_most};
+ghost use Rattle.std.specs.Option.{option_map};
 ghost use Rattle.refusal.specs.Answers.{answer};
-ghost use Rattle.image.specs.Files.{first_record, Begins};
+ghost use Rattle.image.specs.Files.{first_record, Begins, Comes};
 ghost use Rattle.image.specs.Views.{entry_of};
 
 use crate::fault::ImageFault;
@@ -29,4 +31,32 @@ pub fn next_record(text: &[u8]) -> Result<Entry<'_>, ImageFault>
         line: line.text,
         rest: line.rest,
     })
+}
+
+// The records of a text, line by line, up to the first line that is none.
+#[derive(Drop)]
+pub(crate) struct Records<'a>(pub(crate) &'a [u8]);
+
+impl<'a> Iterator for Records<'a> {
+    type Item = Result<Entry<'a>, ImageFault>;
+
+    ghost next_gives = { λ s r t. Comes s.0.now (option_map (answer entry_of) r) t.0.now };
+
+    ghost remaining = { λ s. at_most (length s.0.now) };
+
+    fn next(&mut self) -> Option<Result<Entry<'a>, ImageFault>> {
+        if self.0.is_empty() {
+            return None;
+        }
+        match next_record(self.0) {
+            Ok(entry) => {
+                self.0 = entry.rest;
+                Some(Ok(entry))
+            }
+            Err(fault) => {
+                self.0 = &[];
+                Some(Err(fault))
+            }
+        }
+    }
 }

@@ -3,7 +3,7 @@ ghost use Rattle.ihex.specs.Meaning.{content};
 ghost use Rattle.image.specs.Prints.{survey_text};
 ghost use Rattle.image.specs.Surveys.{added, Accepts, Surveyed, bytes_in};
 
-use crate::entry::next_record;
+use crate::entry::Records;
 use crate::offsets::Offsets;
 use crate::refused::Refused;
 use ihex::Record;
@@ -42,13 +42,9 @@ impl Survey {
         ensures accepts { Accepts text.now result }
     {
         let mut survey = Survey::default();
-        let mut rest = text;
-        let mut line: usize = 1;
-        while !rest.is_empty() {
-            let entry = next_record(rest).map_err(|fault| Refused { line, fault })?;
+        for (line, entry) in (1..).zip(Records(text)) {
+            let entry = entry.map_err(|fault| Refused { line, fault })?;
             survey.add(&entry.record);
-            rest = entry.rest;
-            line += 1;
         }
         Ok(survey)
     }

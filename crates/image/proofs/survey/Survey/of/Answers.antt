@@ -1,41 +1,36 @@
-use Rattle.std.proofs.Common.{◌≡◌, Ok, Err, rules, arith, sym}
-use Rattle.std.proofs.lemmas.Bool.{eqb-false, eqb-true}
-use Rattle.std.proofs.lemmas.List.{nil_from_length}
+use Rattle.std.proofs.Common.{◌≡◌, ◌+◌, Ok, rules, arith}
+use Rattle.std.specs.Iterator.Adapters.{zip_first, zip_second}
+use Rattle.refusal.specs.Answers.{answer}
+use Rattle.image.specs.Files.{Begins}
 use Rattle.image.specs.Views.{entry_of}
 use Rattle.image.specs.Surveys.{Surveyed}
 use Rattle.image.proofs.Accepted.{survey_accepts}
-use Rattle.image.proofs.Tallies.{so_far_on, so_far_fits, so_far_refused, so_far_whole}
+use Rattle.image.proofs.Tallies.{so_far_on, so_far_fits, so_far_lines}
 use Rattle.image.proofs.survey.Survey.of.Goals as goal
 
 pub add-requires : goal.add-requires
 add-requires c =
-    let k : c.next_record.result ≡ Ok c.in_ok-entry.entry = search rules in
-    let h = so_far_fits _ _ _ _ c.loop-rest.invariant (entry_of c.in_ok-entry.entry) (rw k at c.next_record.ensures.canonical) in
+    let k : c.in-Some.entry ≡ Ok c.in_ok-entry.entry = search rules in
+    let b : Begins (zip_second c.loop-line.line-iterator).0.now (answer entry_of c.in-Some.entry) = search rules in
+    let h = so_far_fits _ _ _ _ c.loop-line.invariant (entry_of c.in_ok-entry.entry) (rw k at b) in
     record { records = omega arith; bytes = omega arith }
 
-pub loop-rest-preserved : goal.loop-rest-preserved
-loop-rest-preserved c =
-    let k : c.next_record.result ≡ Ok c.in_ok-entry.entry = search rules in
-    so_far_on _ _ _ _ c.loop-rest.invariant (entry_of c.in_ok-entry.entry) _ (rw k at c.next_record.ensures.canonical) c.add.ensures
-
-pub overflow_add-line : goal.overflow_add-line
-overflow_add-line c =
-    let k : c.next_record.result ≡ Ok c.in_ok-entry.entry = search rules in
-    let h = so_far_fits _ _ _ _ c.loop-rest.invariant (entry_of c.in_ok-entry.entry) (rw k at c.next_record.ensures.canonical) in
-    omega arith
+pub loop-line-preserved : goal.loop-line-preserved
+loop-line-preserved c =
+    let k : c.in-Some.entry ≡ Ok c.in_ok-entry.entry = search rules in
+    let b : Begins (zip_second c.loop-line.line-iterator).0.now (answer entry_of c.in-Some.entry) = search rules in
+    let n : (zip_first c.next.new.self).start ≡ (zip_first c.loop-line.line-iterator).start + 1 = search rules in
+    let r : (zip_second c.next.new.self).0.now ≡ c.in_ok-entry.entry.rest.now = search rules in
+    let s = so_far_on _ _ _ _ c.loop-line.invariant (entry_of c.in_ok-entry.entry) _ (rw k at b) c.add.ensures in
+    rw (n, r) s
 
 pub returns-in_err-entry : goal.returns-in_err-entry
 returns-in_err-entry c =
-    let f = c.in_err-entry.field-0.0.fault in
-    let k : c.next_record.result ≡ Err f = search rules in
-    let e : c.from_residual.result ≡ Err (record { line = c.loop-rest.line; fault = f }) = search rules in
-    let some = eqb-false _ 0 (sym c.loop-rest-test.ensures) in
-    let s : Surveyed c.args.text.now c.from_residual.result =
-    rw e (so_far_refused _ _ _ _ c.loop-rest.invariant f (omega arith) (rw k at c.next_record.ensures.answer)) in
+    let s : Surveyed c.args.text.now c.from_residual.result = search rules in
     record { surveyed = s; accepts = survey_accepts _ c.from_residual.result s }
 
 pub returns : goal.returns
 returns c =
-    let s : Surveyed c.args.text.now (Ok c.loop-rest.survey) =
-    so_far_whole _ _ _ _ c.loop-rest.invariant (nil_from_length _ (eqb-true _ 0 (sym c.loop-rest-test.ensures))) in
-    record { surveyed = s; accepts = survey_accepts _ (Ok c.loop-rest.survey) s }
+    let few = so_far_lines _ _ _ _ c.loop-line.invariant in
+    let s : Surveyed c.args.text.now (Ok c.loop-line.survey) = search rules in
+    record { surveyed = s; accepts = survey_accepts _ (Ok c.loop-line.survey) s }
