@@ -1,9 +1,8 @@
 -- what `{:04X}` writes of 16 bits: its four digits
-use Rattle.std.proofs.Common.{◌≡◌, ℕ, suc, eqb, ◌/◌, ◌%◌, ◌^◌, ◌-◌, ◌<◌, ◌≤◌, true, false, List, [], ◌∷◌, Some, ap, ◌∙◌, ⊎_elim, ap₂, arith}
+use Rattle.std.proofs.Common.{◌≡◌, ℕ, suc, eqb, ◌/◌, ◌%◌, ◌^◌, ◌-◌, ◌<◌, ◌≤◌, true, false, List, [], ◌∷◌, ap, ◌∙◌, ⊎_elim, arith}
 use Rattle.std.proofs.lemmas.Bool.{cases_lt, cond-true, cond-false, ne_eqb, eq-eqb}
 use Rattle.std.proofs.lemmas.Fmt.{hex_one_digit, hex_two_digits}
-use Rattle.std.specs.Fmt.{digits, digits_onto, digits_output, styled_digits_output, shown_prefix, radix_prefix, padded_integral, char_count, format_spec}
-use Rattle.std.specs.Option.{option_map}
+use Rattle.std.specs.Fmt.{digits, digits_onto, padded_integral, char_count, format_spec}
 use Rattle.ihex.specs.Digits.{digit}
 use Rattle.ihex.specs.Digits as ihex
 
@@ -56,8 +55,3 @@ hex_word n h =
     (cases_lt n 4096))
     (cases_lt n 256))
     (cases_lt n 16)
-
-pub hex_written : (d : _) (s : _) (n : ℕ) → n < 2 ^ 16 → digits_output d ≡ Some (digits 16 true n) → s ≡ format_spec 32 0 4 4 (2 ^ 64 - 1)
-    → styled_digits_output d s ≡ Some (ihex.digits (n / 256 ∷ n % 256 ∷ []))
-hex_written d s n h e f =
-    ap₂ (λ o s. option_map (padded_integral s false (shown_prefix s (radix_prefix d.base))) o) e f ∙ ap Some (hex_word n h)

@@ -61,11 +61,15 @@ impl fmt::Display for Survey {
             ended,
         } = *self;
         let ended = if ended { "yes" } else { "no" };
-        write!(f, "data records: {records}\nbytes: {bytes}\n")?;
         match offsets {
-            Some(offsets) => write!(f, "{offsets}")?,
-            None => write!(f, "offsets: none")?,
+            Some(offsets) => write!(
+                f,
+                "data records: {records}\nbytes: {bytes}\n{offsets}\nend record: {ended}"
+            ),
+            None => write!(
+                f,
+                "data records: {records}\nbytes: {bytes}\noffsets: none\nend record: {ended}"
+            ),
         }
-        write!(f, "\nend record: {ended}")
     }
 }
