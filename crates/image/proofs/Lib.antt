@@ -1,4 +1,4 @@
 pub mod Closing
-pub mod Heads
+pub mod Hexadecimal
 pub mod Tallies
 pub mod Accepted

@@ -1,18 +1,17 @@
--- tallies of the records of a file
-use Rattle.std.proofs.Common.{◌≡◌, ℕ, ◌+◌, ◌*◌, ◌≤◌, List, [], ◌∷◌, ◌++◌, length, sym, refl, ap, ◌∙◌, arith}
-use Rattle.std.proofs.lemmas.List.{append_assoc, flat_map_more, length-append}
-use Rattle.ihex.specs.Content.{Content, data_at, end_of_file, line}
+-- tallies of the records of a file, and how far a survey has come
+use Rattle.std.proofs.Common.{◌≡◌, ℕ, ◌+◌, ◌*◌, ◌≤◌, List, [], ◌∷◌, ◌++◌, length, Ok, sym, refl, ap, ◌∙◌, arith}
+use Rattle.std.proofs.ByRecursion.{All-push}
+use Rattle.std.proofs.lemmas.List.{append_assoc, flat_map_more, length-append, length_push}
+use Rattle.std.specs.List.{AllByRecursion}
+use Rattle.ihex.specs.Content.{Content, data_at, end_of_file, line, Sound}
 use Rattle.ihex.proofs.WriteSteps.{line_length}
-use Rattle.image.specs.Files.{closed, file}
+use Rattle.image.specs.Files.{Head, closed, file, Begins}
 use Rattle.image.specs.Surveys.{bytes_in, added, tally, tally_from, nothing_yet}
 use Rattle.image.specs.declared.survey.Survey.{Survey}
 
-tally_from_push : (s : Survey) (rs : List Content) (r : Content) → tally_from s (rs ++ r ∷ []) ≡ added (tally_from s rs) r
-tally_from_push s [] r = refl
-tally_from_push s (q ∷ rs) r = tally_from_push (added s q) rs r
-
-pub tally_push : (rs : List Content) (r : Content) → tally (rs ++ r ∷ []) ≡ added (tally rs) r
-tally_push rs r = tally_from_push nothing_yet rs r
+tally_push : (s : Survey) (rs : List Content) (r : Content) → tally_from s (rs ++ r ∷ []) ≡ added (tally_from s rs) r
+tally_push s [] r = refl
+tally_push s (q ∷ rs) r = tally_push (added s q) rs r
 
 pub file_push : (t rest rest' : List ℕ) (rs : List Content) (r : Content) → t ≡ file rs ++ rest → rest ≡ closed r ++ rest'
     → t ≡ file (rs ++ r ∷ []) ++ rest'
@@ -30,21 +29,44 @@ pub file_lines : (rs : List Content) → 13 * length rs ≤ length (file rs)
 file_lines [] = omega arith
 file_lines (r ∷ rs) = omega (arith, length-append (closed r) (file rs), closed_long r, file_lines rs)
 
-records_below : (s : Survey) (rs : List Content) → (tally_from s rs).records ≤ s.records + length rs
-records_below s [] = omega arith
-records_below s (data_at offset ds ∷ rs) = omega (arith, records_below (added s (data_at offset ds)) rs)
-records_below s (end_of_file ∷ rs) = omega (arith, records_below (added s end_of_file) rs)
-
-bytes_below : (s : Survey) (rs : List Content) → (tally_from s rs).bytes ≤ s.bytes + length (file rs)
-bytes_below s [] = omega arith
-bytes_below s (data_at offset ds ∷ rs) =
+tally_below : (s : Survey) (rs : List Content) → let u = tally_from s rs in (u.records ≤ s.records + length rs) × (u.bytes ≤ s.bytes + length (file rs))
+tally_below s [] = (omega arith, omega arith)
+tally_below s (data_at offset ds ∷ rs) =
     let r : Content = data_at offset ds in
-    omega (arith, bytes_below (added s r) rs, length-append (closed r) (file rs), closed_long r)
-bytes_below s (end_of_file ∷ rs) =
-    omega (arith, bytes_below (added s end_of_file) rs, length-append (closed end_of_file) (file rs))
+    let h = tally_below (added s r) rs in
+    (omega (arith, h.0), omega (arith, h.1, length-append (closed r) (file rs), closed_long r))
+tally_below s (end_of_file ∷ rs) =
+    let h = tally_below (added s end_of_file) rs in
+    (omega (arith, h.0), omega (arith, h.1, length-append (closed end_of_file) (file rs)))
 
-pub tally-records : (rs : List Content) → (tally rs).records ≤ length rs
-tally-records rs = omega (arith, records_below nothing_yet rs)
+pub record SoFar (text : List ℕ) (s : Survey) (rest : List ℕ) (line : ℕ) : Type 0 where
+  pub records : List Content
+  pub sound : AllByRecursion Sound records
+  pub begins : text ≡ file records ++ rest
+  pub tallied : s ≡ tally records
+  pub counted : line ≡ length records + 1
 
-pub tally-bytes : (rs : List Content) → (tally rs).bytes ≤ length (file rs)
-tally-bytes rs = omega (arith, bytes_below nothing_yet rs)
+module _ (text : List ℕ) (s : Survey) (rest : List ℕ) (line : ℕ) (a : SoFar text s rest line) where
+  pub so_far_on : (h : Head) (s' : Survey) → Begins rest (Ok h) → s' ≡ added s h.content → SoFar text s' h.rest (line + 1)
+  so_far_on h s' (sound, _, begins) e = record {
+    records = a.records ++ h.content ∷ [];
+    sound = All-push Sound a.records h.content a.sound sound;
+    begins = file_push text rest h.rest a.records h.content a.begins begins;
+    tallied = e ∙ ap (λ u. added u h.content) a.tallied ∙ sym (tally_push nothing_yet a.records h.content);
+    counted = omega (arith, a.counted, length_push a.records h.content);
+  }
+
+  pub so_far_lines : 13 * line + length rest ≤ length text + 13
+  so_far_lines = omega (arith, a.counted, file_lines a.records, ap length a.begins, length-append (file a.records) rest)
+
+  -- no count passes the text's length
+  pub so_far_fits : (h : Head) → Begins rest (Ok h)
+      → (s.records + length rest ≤ length text) × (s.bytes + bytes_in h.content ≤ length text)
+  so_far_fits h b =
+      let rs = a.records in
+      let low = tally_below nothing_yet rs in
+      let all = ap length a.begins ∙ length-append (file rs) rest in
+      let one = ap length b.2 ∙ length-append (closed h.content) h.rest in (
+        omega (arith, ap (λ u. u.records) a.tallied, low.0, file_lines rs, all),
+        omega (arith, ap (λ u. u.bytes) a.tallied, low.1, all, one, closed_long h.content),
+      )

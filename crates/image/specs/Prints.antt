@@ -1,11 +1,10 @@
 -- what is printed of a file
-use Rattle.std.specs.Prelude.{◌≡◌, ℕ, ◌/◌, ◌%◌, cond, List, [], ◌∷◌, ◌++◌, Ok, Err, codes, decimal, Result}
+use Rattle.std.specs.Prelude.{◌≡◌, ℕ, ◌/◌, ◌%◌, cond, List, [], ◌∷◌, ◌++◌, Some, None, Ok, Err, codes, decimal, Option, Result}
 use Rattle.ihex.specs.Digits.{digits}
 use Rattle.refusal.specs.Number.{number_of}
 use Rattle.image.specs.Faults.{refusal_of}
 use Rattle.image.specs.Surveys.{Surveyed}
 use Rattle.image.specs.declared.offsets.Offsets.{Offsets}
-use Rattle.image.specs.declared.offsets.Offsets.TheVariants.{None, Between}
 use Rattle.image.specs.declared.refused.Refused.{Refused}
 use Rattle.image.specs.declared.survey.Survey.{Survey}
 
@@ -17,10 +16,10 @@ refused_text x = codes "refused," ++ (decimal x.line ++ (codes "," ++ decimal (n
 abbrev pub offset_text : ℕ → List ℕ
 offset_text n = digits (n / 256 ∷ n % 256 ∷ []) ++ codes "h"
 
-abbrev pub offsets_text : Offsets → List ℕ
+abbrev pub offsets_text : Option Offsets → List ℕ
 offsets_text None = codes "offsets: none"
-offsets_text (Between lowest highest) =
-    codes "lowest offset: " ++ (offset_text lowest ++ (codes "\nhighest offset: " ++ offset_text highest))
+offsets_text (Some o) =
+    codes "lowest offset: " ++ (offset_text o.lowest ++ (codes "\nhighest offset: " ++ offset_text o.highest))
 
 abbrev pub survey_text : Survey → List ℕ
 survey_text s =

@@ -1,10 +1,9 @@
 -- what an image file holds in all
-use Rattle.std.specs.Prelude.{◌≡◌, ℕ, ◌+◌, ◌≤◌, min, max, true, false, List, [], ◌∷◌, ◌++◌, length, Ok, Err, Result}
+use Rattle.std.specs.Prelude.{◌≡◌, ℕ, ◌+◌, ◌≤◌, min, max, true, false, List, [], ◌∷◌, ◌++◌, length, Some, None, Ok, Err, Option, Result}
 use Rattle.std.specs.List.{AllByRecursion}
 use Rattle.ihex.specs.Content.{Content, data_at, end_of_file, Sound}
 use Rattle.image.specs.Files.{file, first_record}
 use Rattle.image.specs.declared.offsets.Offsets.{Offsets}
-use Rattle.image.specs.declared.offsets.Offsets.TheVariants.{None, Between}
 use Rattle.image.specs.declared.refused.Refused.{Refused}
 use Rattle.image.specs.declared.survey.Survey.{Survey}
 
@@ -17,16 +16,16 @@ abbrev pub nothing_yet : Survey
 nothing_yet = record { records = 0; bytes = 0; offsets = None; ended = false }
 
 -- the lowest and the highest offset, with one more
-abbrev pub widened : Offsets → ℕ → Offsets
-widened None offset = Between offset offset
-widened (Between lowest highest) offset = Between (min lowest offset) (max highest offset)
+abbrev pub widened : Option Offsets → ℕ → Offsets
+widened None offset = record { lowest = offset; highest = offset }
+widened (Some o) offset = record { lowest = min o.lowest offset; highest = max o.highest offset }
 
 -- one record more
 abbrev pub added : Survey → Content → Survey
 added s (data_at offset ds) = record {
   records = s.records + 1;
   bytes = s.bytes + length ds;
-  offsets = widened s.offsets offset;
+  offsets = Some (widened s.offsets offset);
   ended = s.ended;
 }
 added s end_of_file = record { records = s.records; bytes = s.bytes; offsets = s.offsets; ended = true }

@@ -9,4 +9,4 @@ abbrev pub cut_of : Line → Cut
 cut_of l = record { line = l.text.now; rest = l.rest.now }
 
 abbrev pub entry_of : Entry → Head
-entry_of e = record { content = content e.record; size = e.size }
+entry_of e = record { content = content e.record; line = e.line.now; rest = e.rest.now }

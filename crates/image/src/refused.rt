@@ -17,7 +17,7 @@ impl fmt::Display for Refused {
 
     fn fmt<W: fmt::Write>(&self, f: &mut fmt::Formatter<W>) -> fmt::Result {
         let line = self.line;
-        let number = Refusal::from(self.fault).number();
-        write!(f, "refused,{line},{number}")
+        let refusal = Refusal::from(self.fault);
+        write!(f, "refused,{line},{refusal}")
     }
 }

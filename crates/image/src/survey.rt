@@ -1,46 +1,36 @@
 ghost use Rattle.std.specs.Prelude.{◌≡◌, ◌+◌, ◌^◌, ◌<◌, Some};
 ghost use Rattle.ihex.specs.Meaning.{content};
 ghost use Rattle.image.specs.Prints.{survey_text};
-ghost use Rattle.image.specs.Surveys.{nothing_yet, added, Accepts, Surveyed, bytes_in};
+ghost use Rattle.image.specs.Surveys.{added, Accepts, Surveyed, bytes_in};
 
-use crate::entry::next_record;
+use crate::entry::Records;
 use crate::offsets::Offsets;
 use crate::refused::Refused;
 use ihex::Record;
 use std::fmt;
 
 // What a file holds in all.
-#[derive(Clone, Copy, PartialEq, Eq, Debug)]
+#[derive(Clone, Copy, PartialEq, Eq, Debug, Default)]
 pub struct Survey {
     // data records, and the bytes in them
     pub records: usize,
     pub bytes: usize,
-    pub offsets: Offsets,
+    pub offsets: Option<Offsets>,
     // whether an end record came
     pub ended: bool,
 }
 
 impl Survey {
-    fn new() -> Self
-        ensures { result ≡ nothing_yet }
-    {
-        Survey {
-            records: 0,
-            bytes: 0,
-            offsets: Offsets::None,
-            ended: false,
-        }
-    }
-
     fn add(&mut self, record: &Record)
-        requires { (self.old.records + 1 < 2 ^ 64) × (self.old.bytes + bytes_in (content «record».now) < 2 ^ 64) }
+        requires records { self.old.records + 1 < 2 ^ 64 }
+        requires bytes { self.old.bytes + bytes_in (content «record».now) < 2 ^ 64 }
         ensures { self.new ≡ added self.old (content «record».now) }
     {
         match record {
             Record::Data(data) => {
                 self.records += 1;
                 self.bytes += data.data().len();
-                self.offsets = self.offsets.with(data.offset());
+                self.offsets = Some(Offsets::with(self.offsets, data.offset()));
             }
             Record::End => self.ended = true,
         }
@@ -51,18 +41,10 @@ impl Survey {
         ensures surveyed { Surveyed text.now result }
         ensures accepts { Accepts text.now result }
     {
-        let mut survey = Survey::new();
-        let mut rest = text;
-        let mut line: usize = 1;
-        while !rest.is_empty() {
-            match next_record(rest) {
-                Ok(entry) => {
-                    survey.add(&entry.record);
-                    rest = &rest[entry.size..];
-                }
-                Err(fault) => return Err(Refused { line, fault }),
-            }
-            line += 1;
+        let mut survey = Survey::default();
+        for (line, entry) in (1..).zip(Records(text)) {
+            let entry = entry.map_err(|fault| Refused { line, fault })?;
+            survey.add(&entry.record);
         }
         Ok(survey)
     }
@@ -79,9 +61,15 @@ impl fmt::Display for Survey {
             ended,
         } = *self;
         let ended = if ended { "yes" } else { "no" };
-        write!(
-            f,
-            "data records: {records}\nbytes: {bytes}\n{offsets}\nend record: {ended}"
-        )
+        match offsets {
+            Some(offsets) => write!(
+                f,
+                "data records: {records}\nbytes: {bytes}\n{offsets}\nend record: {ended}"
+            ),
+            None => write!(
+                f,
+                "data records: {records}\nbytes: {bytes}\noffsets: none\nend record: {ended}"
+            ),
+        }
     }
 }

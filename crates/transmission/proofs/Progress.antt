@@ -1,6 +1,6 @@
 -- how far a transmission has come
-use Rattle.std.proofs.Common.{◌≡◌, ℕ, ◌+◌, ◌-◌, ◌≤◌, Bool, true, false, cond, List, [], ◌∷◌, ◌++◌, length, take, drop, is_ok, Option, sym, refl, ap, ◌∙◌, arith, append_assoc, append-nil}
-use Rattle.std.proofs.lemmas.List.{length-append, take_at}
+use Rattle.std.proofs.Common.{◌≡◌, ℕ, ◌+◌, ◌≤◌, Bool, true, false, cond, List, [], ◌∷◌, ◌++◌, length, is_ok, Option, sym, refl, ap, ◌∙◌, arith, append_assoc, append-nil}
+use Rattle.std.proofs.lemmas.List.{length-append}
 use Rattle.std.specs.List.{AllByRecursion}
 use Rattle.std.specs.Option.{option_to_list}
 use Rattle.ihex.specs.Content.{Content, line, Sound}
@@ -15,12 +15,6 @@ use Rattle.lane.specs.declared.interface.Lane.{Ghosts as Lane}
 use Rattle.transmission.specs.Sending.{numbered, received, Sends, none, one, SentOne, Transmitted}
 use Rattle.transmission.specs.Tallies.{counted, no_traffic, tally_from}
 use Rattle.transmission.specs.declared.traffic.Traffic.{Traffic}
-
--- the line of the record with which a text begins
-pub line_front : (r : Content) (t : List ℕ) (n : ℕ) → n ≡ length (closed r) → t ≡ closed r ++ drop n t → take (n - 2) t ≡ line r
-line_front r t n e h =
-    ap (take (n - 2)) (h ∙ append_assoc (line r) (13 ∷ 10 ∷ []) (drop n t))
-    ∙ take_at (line r) _ (n - 2) (omega (arith, length-append (line r) (13 ∷ 10 ∷ [])))
 
 -- one count more, and not the other
 pub one_of : (b : Bool) → cond b 1 0 + cond b 0 1 ≡ 1

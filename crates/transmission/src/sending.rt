@@ -37,11 +37,10 @@ pub fn transmit<L: Lane>(lane: &mut L, text: &[u8]) -> Traffic
     let mut number = SequenceNumber::modulo(0);
     let mut rest = text;
     while let Ok(entry) = next_record(rest) {
-        let size = entry.size;
-        let came = send(lane, number, &rest[0..size - 2]);
+        let came = send(lane, number, entry.line);
         traffic.count(came);
         number = number.next();
-        rest = &rest[size..];
+        rest = entry.rest;
     }
     traffic
 }

@@ -1,13 +1,6 @@
-use Rattle.std.proofs.Common.{◌≡◌, ◌+◌, List, ◌++◌, length}
-use Rattle.std.specs.List.{AllByRecursion}
-use Rattle.ihex.specs.Content.{Content, Sound}
-use Rattle.image.specs.Files.{file}
-use Rattle.image.specs.Surveys.{tally}
+use Rattle.std.specs.Iterator.Adapters.{zip_first, zip_second}
+use Rattle.image.proofs.Tallies.{SoFar}
 use Rattle.image.proofs.survey.Survey.of.Given as goal
 
-abbrev pub invariant-loop-rest : goal.invariant-loop-rest
-invariant-loop-rest l =
-    (rs : List Content) × AllByRecursion Sound rs × (l.text ≡ file rs ++ l.rest) × (l.survey ≡ tally rs) × (l.line ≡ length rs + 1)
-
-abbrev pub decreases-loop-rest : goal.decreases-loop-rest
-decreases-loop-rest l = length l.rest
+abbrev pub invariant-loop-line : goal.invariant-loop-line
+invariant-loop-line l = SoFar l.text l.survey (zip_second l.line-iterator).0.now (zip_first l.line-iterator).start
