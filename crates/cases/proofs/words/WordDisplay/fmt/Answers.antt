@@ -1,13 +1,10 @@
-use Rattle.std.proofs.Common.{◌≡◌, ℕ, ◌+◌, ◌<◌, List, [], ◌∷◌, ◌++◌, length, get_or, take, refl, ap, sym, ◌∙◌, rules}
+use Rattle.std.proofs.Common.{◌≡◌, ℕ, ◌+◌, ◌<◌, List, [], ◌∷◌, ◌++◌, length, get_or, take, ap, sym, ◌∙◌, rules}
 use Rattle.std.proofs.Output.{has_written_append, has_written_of_eq}
 use Rattle.std.proofs.lemmas.List.{take_more}
 use Rattle.ihex.specs.Digits.{digits}
+use Rattle.ihex.proofs.Spelling.{digits-append}
 use Rattle.cases.proofs.Pairs.{printed_pair}
 use Rattle.cases.proofs.words.WordDisplay.fmt.Goals as goal
-
-digits-append : (bs cs : List ℕ) → digits (bs ++ cs) ≡ digits bs ++ digits cs
-digits-append [] cs = refl
-digits-append (b ∷ bs) cs = ap (λ ds. digits (b ∷ []) ++ ds) (digits-append bs cs)
 
 -- one byte more
 more : (bs : List ℕ) (i : ℕ) (text : List ℕ) → i < length bs → text ≡ digits (get_or bs i 0 ∷ []) → digits (take i bs) ++ text ≡ digits (take (i + 1) bs)
