@@ -55,8 +55,9 @@ apart [] (q ∷ qs) rest hr hq e =
 apart (r ∷ rs) (q ∷ qs) rest hr hq e =
     let both = sym (accepted r (file rs) hr.0) ∙ ap first_record (e ∙ append_assoc (closed q) (file qs) rest) ∙ accepted q (file qs ++ rest) hq.0 in
     let same : ◌≡◌ {A = Head} (record { content = r; line = line r; rest = file rs }) (record { content = q; line = line q; rest = file qs ++ rest }) = cc in
+    let rq : r ≡ q = ap (λ h. h.content) same in
     let p = apart rs qs rest hr.1 hq.1 (ap (λ h. h.rest) same) in
-    (p.0, ap₂ (λ x xs. x ∷ xs) (ap (λ h. h.content) same) p.1, p.2, p.3)
+    (p.0, ap₂ (λ x xs. x ∷ xs) {v = qs ++ p.0} rq p.1, p.2, p.3)
 
 no_records : (ps : List Content) → file ps ≡ [] → ps ≡ []
 no_records [] e = refl

@@ -1,5 +1,5 @@
 -- image files as lists of records
-use Rattle.std.specs.Prelude.{◌≡◌, ℕ, ◌≤◌, List, [], ◌∷◌, ◌++◌, length, Some, None, Ok, Err, Option, Result, IfOk}
+use Rattle.std.specs.Prelude.{◌≡◌, ℕ, ◌≤◌, List, [], ◌∷◌, ◌++◌, length, Some, None, Ok, Err, Option, Result, MatchResult}
 use Rattle.std.specs.List.{flat_map}
 use Rattle.refusal.specs.Answers.{then}
 use Rattle.ihex.specs.Content.{Content, line, Sound}
@@ -36,7 +36,8 @@ abbrev pub Begins : List ℕ → Result Head ImageFault → Type 0
 Begins t (Ok h) = Sound h.content × (h.line ≡ line h.content) × (t ≡ closed h.content ++ h.rest)
 Begins t (Err f) = Unit {0}
 
--- what comes next of the records of a text, and what is left of it: nothing comes only where nothing is left
+-- What comes next of the records of a text, and what is left of it.
+-- Nothing comes only where nothing is left, and nothing is left after a line that is no record.
 abbrev pub Comes : List ℕ → Option (Result Head ImageFault) → List ℕ → Type 0
-Comes t None rest = t ≡ []
-Comes t (Some a) rest = (1 ≤ length t) × (a ≡ first_record t) × Begins t a × IfOk a (λ h. rest ≡ h.rest)
+Comes t None rest = (t ≡ []) × (rest ≡ [])
+Comes t (Some a) rest = (1 ≤ length t) × (a ≡ first_record t) × Begins t a × MatchResult a (λ h. rest ≡ h.rest) (λ f. rest ≡ [])
