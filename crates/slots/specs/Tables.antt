@@ -1,6 +1,6 @@
 -- a table of eight places, and the frames that wait in it
-use Rattle.std.specs.Prelude.{◌≡◌, ℕ, zero, suc, ◌+◌, ◌-◌, ◌%◌, cond, List, [], ◌∷◌, ◌++◌, map, length, take, drop, replicate, Some, None, Option, nat_lt, slice_index_or, slice_set}
-use Rattle.slots.specs.declared.place.Place.{Place}
+use Rattle.std.specs.Prelude.{◌≡◌, ℕ, zero, suc, ◌+◌, ◌-◌, ◌%◌, cond, List, [], ◌∷◌, ◌++◌, map, length, drop, replicate, Some, None, Option, nat_lt, slice_index_or, slice_set}
+use Rattle.bounded.specs.Held.{held}
 use Rattle.slots.specs.declared.table.Table.{Table}
 
 -- the frame in each place, the place of the oldest that waits, and how many wait
@@ -9,11 +9,8 @@ pub record View : Type 0 where
   pub head : ℕ
   pub count : ℕ
 
-abbrev pub frame_of : {n : ℕ} → Place n → List ℕ
-frame_of p = take p.len p.octets
-
 abbrev pub view : {n : ℕ} → Table n → View
-view t = record { places = map frame_of t.places; head = t.head; count = t.count }
+view t = record { places = map held t.places; head = t.head; count = t.count }
 
 -- n frames from place h on, around the table's end
 abbrev pub from_place : List (List ℕ) → ℕ → ℕ → List (List ℕ)

@@ -1,6 +1,6 @@
 ghost use Rattle.std.specs.Prelude.{◌≡◌, ◌+◌, ◌%◌, ◌<◌, ◌≤◌};
 
-use crate::place::Place;
+use bounded::Bytes;
 
 // The places of a table.
 const PLACES: usize = 8;
@@ -9,7 +9,7 @@ const PLACES: usize = 8;
 // Kept by hand, in fixed memory: a put promises to fill one place and to change no other, which no queue's contract tells.
 #[derive(Drop)]
 pub(crate) struct Table<const LONGEST: usize> {
-    places: [Place<LONGEST>; PLACES],
+    places: [Bytes<LONGEST>; PLACES],
     // the place of the oldest frame that waits
     head: usize,
     // how many wait
@@ -32,21 +32,21 @@ impl<const LONGEST: usize> Table<LONGEST> {
     ghost use Rattle.std.specs.Prelude.{length, slice_set};
     ghost use Rattle.std.specs.Borrow.{sem, follows};
     ghost use Rattle.slots.specs.Tables.{view, blank, Stores, WritesOut};
-    ghost use Rattle.slots.specs.contracts.place.Place.{the_row as place_row};
+    ghost use Rattle.bounded.specs.contracts.Bytes.{the_row as place_row};
     ghost use Rattle.slots.specs.contracts.table.Table.{the_row};
 
     pub(crate) fn new() -> Self
         ensures { view result ≡ blank }
     {
         Table {
-            places: [Place::empty(); PLACES],
+            places: [Bytes::empty(); PLACES],
             head: 0,
             count: 0,
         }
     }
 
     // One place, lent for writing; every other place, and which of them wait, stay.
-    fn place(&mut self, i: usize) -> &mut Place<LONGEST>
+    fn place(&mut self, i: usize) -> &mut Bytes<LONGEST>
         requires { i < 8 }
         ensures* { sem 𝓛 (follows (the_row LONGEST.row) (place_row LONGEST.row) self.entry.ghost_name result.ghost_name (λ w. record self.old { places = slice_set self.old.places i w })) }
     {
@@ -61,7 +61,7 @@ impl<const LONGEST: usize> Table<LONGEST> {
     {
         if self.count < PLACES {
             let next = place_after(self.head, self.count);
-            self.place(next).fill(frame);
+            *self.place(next) = Bytes::from_slice(frame).unwrap();
             self.count += 1;
         }
     }
@@ -74,7 +74,9 @@ impl<const LONGEST: usize> Table<LONGEST> {
         if self.count == 0 {
             return None;
         }
-        let len = self.places[self.head].write_to(buffer);
+        let frame = self.places[self.head].as_slice();
+        let len = frame.len();
+        buffer[..len].copy_from_slice(frame);
         self.head = place_after(self.head, 1);
         self.count -= 1;
         Some(len)
