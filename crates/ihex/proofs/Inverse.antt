@@ -1,6 +1,6 @@
 -- reading and writing are each other's inverse
 use Rattle.std.proofs.Common.{◌≡◌, ℕ, suc, ◌+◌, ◌*◌, ◌%◌, ◌<◌, ◌≤◌, true, List, [], ◌∷◌, ◌++◌, length, get_or, take, drop, Ok, Err, Result, sym, refl, ap, ◌∙◌, ap₂, arith}
-use Rattle.std.proofs.lemmas.List.{length-append, length-take, length-take-le, take_at, take_more, take_all, nil_from_length}
+use Rattle.std.proofs.lemmas.List.{length-append, length-take, take_at, take_more, take_all, nil_from_length}
 use Rattle.std.proofs.lemmas.Bool.Decides.{nat_tests}
 use Rattle.std.proofs.lemmas.List.Folds.{list_all-append}
 use Rattle.refusal.specs.Answers.{then, answer}

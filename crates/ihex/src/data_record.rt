@@ -27,13 +27,13 @@ impl DataRecord {
     pub fn new(offset: u16, data: &[u8]) -> Result<Self, RecordFault>
         ensures { answer data_content result ≡ data_record offset «data».now }
     {
-        if data.is_empty() {
-            return Err(RecordFault::Unknown);
+        match Bytes::from_slice(data) {
+            Some(bytes) if !data.is_empty() => Ok(DataRecord {
+                offset,
+                data: bytes,
+            }),
+            _ => Err(RecordFault::Unknown),
         }
-        let Some(data) = Bytes::from_slice(data) else {
-            return Err(RecordFault::Unknown);
-        };
-        Ok(DataRecord { offset, data })
     }
 
     pub fn offset(&self) -> u16
