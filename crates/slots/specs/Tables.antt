@@ -1,5 +1,5 @@
 -- a table of eight places, and the frames that wait in it
-use Rattle.std.specs.Prelude.{◌≡◌, ℕ, zero, suc, ◌+◌, ◌-◌, ◌%◌, cond, List, [], ◌∷◌, ◌++◌, map, length, drop, replicate, Some, None, Option, nat_lt, slice_index_or, slice_set}
+use Rattle.std.specs.Prelude.{◌≡◌, ℕ, zero, suc, ◌+◌, ◌-◌, ◌%◌, cond, List, [], ◌∷◌, ◌++◌, map, length, replicate, Some, None, Option, nat_lt, slice_index_or, slice_set}
 use Rattle.bounded.specs.Held.{held}
 use Rattle.slots.specs.declared.table.Table.{Table}
 
@@ -49,8 +49,3 @@ pub record Stores (v : View) (f : List ℕ) (v' : View) : Type 0 where
 abbrev pub HandsOut : View → Option (List ℕ) → View → Type 0
 HandsOut v None v' = (waits v ≡ []) × (v' ≡ v)
 HandsOut v (Some f) v' = (waits v ≡ f ∷ waits v') × (v' ≡ advanced v)
-
--- and written at the buffer's front, and nothing else is
-abbrev pub WritesOut : View → List ℕ → Option ℕ → View → List ℕ → Type 0
-WritesOut v buf None v' buf' = HandsOut v None v' × (buf' ≡ buf)
-WritesOut v buf (Some n) v' buf' = (f : List ℕ) × (n ≡ length f) × HandsOut v (Some f) v' × (buf' ≡ f ++ drop n buf)

@@ -29,9 +29,10 @@ fn place_after(place: usize, n: usize) -> usize
 }
 
 impl<const LONGEST: usize> Table<LONGEST> {
-    ghost use Rattle.std.specs.Prelude.{length, slice_set};
+    ghost use Rattle.std.specs.Prelude.{option_map, slice_set};
     ghost use Rattle.std.specs.Borrow.{sem, follows};
-    ghost use Rattle.slots.specs.Tables.{view, blank, Stores, WritesOut};
+    ghost use Rattle.slots.specs.Tables.{view, blank, Stores, HandsOut};
+    ghost use Rattle.bounded.specs.Held.{held};
     ghost use Rattle.bounded.specs.contracts.Bytes.{the_row as place_row};
     ghost use Rattle.slots.specs.contracts.table.Table.{the_row};
 
@@ -55,30 +56,27 @@ impl<const LONGEST: usize> Table<LONGEST> {
 
     // Adds a frame, or loses it where all places are taken.
     #[tactic(auto, using(crate::proofs::Queues::filling))]
-    pub(crate) fn store(&mut self, frame: &[u8])
-        requires { length frame.now ≤ LONGEST }
-        ensures { Stores (view self.old) frame.now (view self.new) }
+    pub(crate) fn store(&mut self, frame: Bytes<LONGEST>)
+        ensures { Stores (view self.old) (held frame.entry) (view self.new) }
     {
         if self.count < PLACES {
             let next = place_after(self.head, self.count);
-            *self.place(next) = Bytes::from_slice(frame).unwrap();
+            *self.place(next) = frame;
             self.count += 1;
         }
     }
 
-    // Writes the oldest frame at the front of a buffer, removes it and answers its length.
-    pub(crate) fn hand_out(&mut self, buffer: &mut [u8]) -> Option<usize>
-        requires { LONGEST ≤ length buffer.old }
-        ensures { WritesOut (view self.old) buffer.old result (view self.new) buffer.new }
+    // Removes the oldest frame and hands it out.
+    #[tactic(auto, using(crate::proofs::Queues::emptying))]
+    pub(crate) fn hand_out(&mut self) -> Option<Bytes<LONGEST>>
+        ensures { HandsOut (view self.old) (option_map held result) (view self.new) }
     {
         if self.count == 0 {
             return None;
         }
-        let frame = self.places[self.head].as_slice();
-        let len = frame.len();
-        buffer[..len].copy_from_slice(frame);
+        let frame = self.places[self.head];
         self.head = place_after(self.head, 1);
         self.count -= 1;
-        Some(len)
+        Some(frame)
     }
 }
