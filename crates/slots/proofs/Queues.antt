@@ -26,5 +26,3 @@ from_first fs h zero lh ln = grind arith
 from_first fs h (suc n) lh ln = grind (arith, common_steps, from_turned fs (suc h) ((h + 1) % 8) n)
 
 pub ruleset filling = (common_steps, map-set, length_from, from_filled)
-
-pub ruleset emptying = (common_steps, from_first)

@@ -67,7 +67,7 @@ impl<const LONGEST: usize> Table<LONGEST> {
     }
 
     // Removes the oldest frame and hands it out.
-    #[tactic(auto, using(crate::proofs::Queues::emptying))]
+    #[tactic(auto, using(std::proofs::lemmas::Grind::common_steps, crate::proofs::Queues::from_first))]
     pub(crate) fn hand_out(&mut self) -> Option<Bytes<LONGEST>>
         ensures { HandsOut (view self.old) (option_map held result) (view self.new) }
     {
