@@ -13,7 +13,7 @@ pub struct Bytes<const MAX: usize> {
 }
 
 impl<const MAX: usize> Bytes<MAX> {
-    ghost use Rattle.std.specs.Prelude.{◌≡◌, [], option_map};
+    ghost use Rattle.std.specs.Prelude.{◌≡◌, [], length, option_map};
     ghost use Rattle.bounded.specs.Held.{held, within};
 
     pub fn empty() -> Self
@@ -39,7 +39,8 @@ impl<const MAX: usize> Bytes<MAX> {
     }
 
     pub fn as_slice(&self) -> &[u8]
-        ensures { result.now ≡ held self.now }
+        ensures bytes { result.now ≡ held self.now }
+        ensures few { length result.now ≤ MAX }
     {
         &self.array[..self.len]
     }
