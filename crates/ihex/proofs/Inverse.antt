@@ -1,6 +1,6 @@
 -- reading and writing are each other's inverse
 use Rattle.std.proofs.Common.{◌≡◌, ℕ, suc, ◌+◌, ◌*◌, ◌%◌, ◌<◌, ◌≤◌, true, List, [], ◌∷◌, ◌++◌, length, get_or, take, drop, Ok, Err, Result, sym, refl, ap, ◌∙◌, ap₂, arith}
-use Rattle.std.proofs.lemmas.List.{length-append, length-take-le, take_at, take_more, take_all, nil_from_length}
+use Rattle.std.proofs.lemmas.List.{length-append, length-take, take_at, take_more, take_all, nil_from_length}
 use Rattle.std.proofs.lemmas.Bool.Decides.{nat_tests}
 use Rattle.std.proofs.lemmas.List.Folds.{list_all-append}
 use Rattle.refusal.specs.Answers.{then, answer}
@@ -12,16 +12,14 @@ use Rattle.ihex.specs.Reading.{digits_in, counted, summed, record_of, record_in,
 use Rattle.ihex.specs.declared.fault.RecordFault.{RecordFault}
 use Rattle.ihex.specs.declared.record.Record.{Record}
 use Rattle.ihex.specs.declared.record.Record.TheVariants.{Data, End}
-use Rattle.ihex.proofs.Octets.{octets_at, octets-take}
+use Rattle.ihex.proofs.Octets.{octets_at}
 use Rattle.ihex.proofs.ReadSteps.{digits_found, count_good, reading_summed}
 use Rattle.ihex.proofs.Spelling.{length-digits, digits_are_digits, length-bytes, bytes_are_octets, bytes-digits, digits-bytes}
 use Rattle.ihex.proofs.Totals.{total-append, sum_byte_closes, sum_byte_alone}
 
 -- what a record of the program says can be said
 pub sound : (x : Record) → Sound (content x)
-sound (Data d) =
-    let n : length (take d.len d.bytes) ≡ d.len = length-take-le d.len d.bytes (omega (arith, d.few, d.room)) in
-    (d.fits, omega (arith, d.some), omega (arith, d.few), octets-take d.len d.bytes d.narrow)
+sound (Data d) = (d.fits, d.some, omega (arith, length-take d.data.len d.data.array, d.data.few), d.narrow)
 sound End = tt
 
 data_found : (n offset : ℕ) (ds : List ℕ) → 1 ≤ length ds → length ds ≤ 128 → record_of n offset 0 ds ≡ Ok (data_at offset ds)

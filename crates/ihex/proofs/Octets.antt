@@ -1,9 +1,8 @@
 -- lists of numbers of 8 bits
-use Rattle.std.proofs.Common.{◌≡◌, ℕ, ◌<◌, Bool, true, ltb, List, length, get_or, take, drop, ◌∙◌, ap}
+use Rattle.std.proofs.Common.{◌≡◌, ℕ, ◌<◌, Bool, true, ltb, List, length, get_or, ◌∙◌, ap}
 use Rattle.std.proofs.lemmas.Bool.{lt-ltb, ltb-true}
 use Rattle.std.proofs.lemmas.List.{get_or_default}
 use Rattle.std.proofs.lemmas.List.Sums.{AllPass-from_list_all, list_all-from_AllPass}
-use Rattle.std.proofs.lemmas.List.Elements.{All-take, All-drop}
 use Rattle.ihex.specs.Digits.{octets}
 
 abbrev pub octet : ℕ → Bool
@@ -15,9 +14,3 @@ octets_from bs h =
 
 pub octets_at : (bs : List ℕ) (i : ℕ) → octets bs ≡ true → i < length bs → get_or bs i 0 < 256
 octets_at bs i h l = ltb-true _ 256 (AllPass-from_list_all octet bs h i 0 l)
-
-pub octets-take : (n : ℕ) (bs : List ℕ) → octets bs ≡ true → octets (take n bs) ≡ true
-octets-take n bs h = list_all-from_AllPass octet (take n bs) (All-take (λ b. octet b ≡ true) n bs (AllPass-from_list_all octet bs h))
-
-pub octets-drop : (n : ℕ) (bs : List ℕ) → octets bs ≡ true → octets (drop n bs) ≡ true
-octets-drop n bs h = list_all-from_AllPass octet (drop n bs) (All-drop (λ b. octet b ≡ true) n bs (AllPass-from_list_all octet bs h))

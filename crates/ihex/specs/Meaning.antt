@@ -1,5 +1,6 @@
 -- what the values of the program mean
-use Rattle.std.specs.Prelude.{ℕ, cond, List, take, Ok, Err, Result, ◌==◌}
+use Rattle.std.specs.Prelude.{ℕ, cond, List, Ok, Err, Result, ◌==◌}
+use Rattle.bounded.specs.Held.{held}
 use Rattle.ihex.specs.Content.{Content, data_at, end_of_file}
 use Rattle.ihex.specs.declared.data_record.DataRecord.{DataRecord}
 use Rattle.ihex.specs.declared.record.Record.{Record}
@@ -12,7 +13,7 @@ use Rattle.refusal.specs.declared.Refusal.{Refusal}
 use Rattle.refusal.specs.declared.Refusal.TheVariants.{RecordTooShort, NoColon, NotADigit, WrongCount, WrongSum, UnknownRecord}
 
 abbrev pub data_of : DataRecord → List ℕ
-data_of d = take d.len d.bytes
+data_of d = held d.data
 
 abbrev pub data_content : DataRecord → Content
 data_content d = data_at d.offset (data_of d)

@@ -1,6 +1,6 @@
 -- a table of eight places, and the frames that wait in it
-use Rattle.std.specs.Prelude.{◌≡◌, ℕ, zero, suc, ◌+◌, ◌-◌, ◌%◌, cond, List, [], ◌∷◌, ◌++◌, map, length, take, drop, replicate, Some, None, Option, nat_lt, slice_index_or, slice_set}
-use Rattle.slots.specs.declared.place.Place.{Place}
+use Rattle.std.specs.Prelude.{◌≡◌, ℕ, zero, suc, ◌+◌, ◌-◌, ◌%◌, cond, List, [], ◌∷◌, ◌++◌, map, length, replicate, Some, None, Option, nat_lt, slice_index_or, slice_set}
+use Rattle.bounded.specs.Held.{held}
 use Rattle.slots.specs.declared.table.Table.{Table}
 
 -- the frame in each place, the place of the oldest that waits, and how many wait
@@ -9,11 +9,8 @@ pub record View : Type 0 where
   pub head : ℕ
   pub count : ℕ
 
-abbrev pub frame_of : {n : ℕ} → Place n → List ℕ
-frame_of p = take p.len p.octets
-
 abbrev pub view : {n : ℕ} → Table n → View
-view t = record { places = map frame_of t.places; head = t.head; count = t.count }
+view t = record { places = map held t.places; head = t.head; count = t.count }
 
 -- n frames from place h on, around the table's end
 abbrev pub from_place : List (List ℕ) → ℕ → ℕ → List (List ℕ)
@@ -52,8 +49,3 @@ pub record Stores (v : View) (f : List ℕ) (v' : View) : Type 0 where
 abbrev pub HandsOut : View → Option (List ℕ) → View → Type 0
 HandsOut v None v' = (waits v ≡ []) × (v' ≡ v)
 HandsOut v (Some f) v' = (waits v ≡ f ∷ waits v') × (v' ≡ advanced v)
-
--- and written at the buffer's front, and nothing else is
-abbrev pub WritesOut : View → List ℕ → Option ℕ → View → List ℕ → Type 0
-WritesOut v buf None v' buf' = HandsOut v None v' × (buf' ≡ buf)
-WritesOut v buf (Some n) v' buf' = (f : List ℕ) × (n ≡ length f) × HandsOut v (Some f) v' × (buf' ≡ f ++ drop n buf)

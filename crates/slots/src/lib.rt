@@ -1,7 +1,6 @@
 // The slot lane: a lane whose frames wait in a table of eight places.
 #![tactic(auto)]
 
-mod place;
 mod slot_lane;
 mod table;
 

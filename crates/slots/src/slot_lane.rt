@@ -3,6 +3,7 @@ ghost use Rattle.lane.specs.Carried.{all_carried};
 ghost use Rattle.slots.specs.Tables.{view, waits};
 
 use crate::table::Table;
+use bounded::Bytes;
 use lane::{Lane, MAX_FRAME, carries, holds_frames};
 use refusal::{BufferTooShort, UnsoundFrame};
 
@@ -52,7 +53,7 @@ impl Lane for SlotLane {
         if !carries(frame.len()) {
             return Err(UnsoundFrame);
         }
-        self.table.store(frame);
+        self.table.store(Bytes::from_slice(frame).unwrap());
         Ok(())
     }
 
@@ -65,6 +66,11 @@ impl Lane for SlotLane {
         if !holds_frames(buffer.len()) {
             return Err(BufferTooShort);
         }
-        Ok(self.table.hand_out(buffer))
+        let Some(frame) = self.table.hand_out() else {
+            return Ok(None);
+        };
+        let frame = frame.as_slice();
+        buffer[..frame.len()].copy_from_slice(frame);
+        Ok(Some(frame.len()))
     }
 }

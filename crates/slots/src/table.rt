@@ -1,6 +1,6 @@
 ghost use Rattle.std.specs.Prelude.{◌≡◌, ◌+◌, ◌%◌, ◌<◌, ◌≤◌};
 
-use crate::place::Place;
+use bounded::Bytes;
 
 // The places of a table.
 const PLACES: usize = 8;
@@ -9,7 +9,7 @@ const PLACES: usize = 8;
 // Kept by hand, in fixed memory: a put promises to fill one place and to change no other, which no queue's contract tells.
 #[derive(Drop)]
 pub(crate) struct Table<const LONGEST: usize> {
-    places: [Place<LONGEST>; PLACES],
+    places: [Bytes<LONGEST>; PLACES],
     // the place of the oldest frame that waits
     head: usize,
     // how many wait
@@ -29,24 +29,25 @@ fn place_after(place: usize, n: usize) -> usize
 }
 
 impl<const LONGEST: usize> Table<LONGEST> {
-    ghost use Rattle.std.specs.Prelude.{length, slice_set};
+    ghost use Rattle.std.specs.Prelude.{option_map, slice_set};
     ghost use Rattle.std.specs.Borrow.{sem, follows};
-    ghost use Rattle.slots.specs.Tables.{view, blank, Stores, WritesOut};
-    ghost use Rattle.slots.specs.contracts.place.Place.{the_row as place_row};
+    ghost use Rattle.slots.specs.Tables.{view, blank, Stores, HandsOut};
+    ghost use Rattle.bounded.specs.Held.{held};
+    ghost use Rattle.bounded.specs.contracts.Bytes.{the_row as place_row};
     ghost use Rattle.slots.specs.contracts.table.Table.{the_row};
 
     pub(crate) fn new() -> Self
         ensures { view result ≡ blank }
     {
         Table {
-            places: [Place::empty(); PLACES],
+            places: [Bytes::empty(); PLACES],
             head: 0,
             count: 0,
         }
     }
 
     // One place, lent for writing; every other place, and which of them wait, stay.
-    fn place(&mut self, i: usize) -> &mut Place<LONGEST>
+    fn place(&mut self, i: usize) -> &mut Bytes<LONGEST>
         requires { i < 8 }
         ensures* { sem 𝓛 (follows (the_row LONGEST.row) (place_row LONGEST.row) self.entry.ghost_name result.ghost_name (λ w. record self.old { places = slice_set self.old.places i w })) }
     {
@@ -55,28 +56,27 @@ impl<const LONGEST: usize> Table<LONGEST> {
 
     // Adds a frame, or loses it where all places are taken.
     #[tactic(auto, using(crate::proofs::Queues::filling))]
-    pub(crate) fn store(&mut self, frame: &[u8])
-        requires { length frame.now ≤ LONGEST }
-        ensures { Stores (view self.old) frame.now (view self.new) }
+    pub(crate) fn store(&mut self, frame: Bytes<LONGEST>)
+        ensures { Stores (view self.old) (held frame.entry) (view self.new) }
     {
         if self.count < PLACES {
             let next = place_after(self.head, self.count);
-            self.place(next).fill(frame);
+            *self.place(next) = frame;
             self.count += 1;
         }
     }
 
-    // Writes the oldest frame at the front of a buffer, removes it and answers its length.
-    pub(crate) fn hand_out(&mut self, buffer: &mut [u8]) -> Option<usize>
-        requires { LONGEST ≤ length buffer.old }
-        ensures { WritesOut (view self.old) buffer.old result (view self.new) buffer.new }
+    // Removes the oldest frame and hands it out.
+    #[tactic(auto, using(std::proofs::lemmas::Grind::common_steps, crate::proofs::Queues::from_first))]
+    pub(crate) fn hand_out(&mut self) -> Option<Bytes<LONGEST>>
+        ensures { HandsOut (view self.old) (option_map held result) (view self.new) }
     {
         if self.count == 0 {
             return None;
         }
-        let len = self.places[self.head].write_to(buffer);
+        let frame = self.places[self.head];
         self.head = place_after(self.head, 1);
         self.count -= 1;
-        Some(len)
+        Some(frame)
     }
 }

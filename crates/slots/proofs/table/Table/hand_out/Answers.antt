@@ -1,8 +1,0 @@
-use Rattle.std.proofs.Common.{arith}
-use Rattle.std.proofs.lemmas.Grind.{common_steps}
-use Rattle.slots.proofs.Queues.{from_first}
-use Rattle.slots.proofs.table.Table.hand_out.Goals as goal
-
-pub returns : goal.returns
-returns g c =
-    (_, c.write_to-len.ensures.len, (grind (arith, common_steps, from_first), grind (arith, common_steps)), c.write_to-len.ensures.buffer)
