@@ -1,6 +1,5 @@
 pub mod Octets
 pub mod Spelling
-pub mod Characters
 pub mod Totals
 pub mod WriteSteps
 pub mod ReadSteps
