@@ -88,6 +88,7 @@ impl Record {
     {
         let digits = Digits::find(text)?;
         let count = digits.count()?;
+        // in fixed memory, as large as any line needs; the front that is used is cut off below
         let mut bytes = [0; Record::MAX_BYTES];
         if digits.decode(&mut bytes) != Record::TOTAL {
             return Err(RecordFault::Sum);
