@@ -3,7 +3,7 @@
 ghost use Rattle.std.specs.Prelude.{◌≡◌, ◌+◌, ◌*◌, ◌<◌, true, [], ◌∷◌};
 ghost use Rattle.ihex.specs.Digits.{digit, digits, is_digit, value, all_digits};
 
-// The character of a value below 16.
+// The character of a value below 16. By hand, here and in `value_of`: std's `from_digit` gives lower case, and its `to_digit` takes it.
 fn digit_of(n: u8) -> u8
     requires { n < 16 }
     ensures { result ≡ digit n }

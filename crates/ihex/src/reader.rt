@@ -1,6 +1,6 @@
 // Reading a record's line, one function for each step of the checks.
 
-ghost use Rattle.std.specs.Prelude.{◌≡◌, ◌+◌, ◌*◌, ◌/◌, ◌%◌, ◌≤◌, true, ◌++◌, length, drop, IfOk};
+ghost use Rattle.std.specs.Prelude.{◌≡◌, ◌+◌, ◌-◌, ◌*◌, ◌/◌, ◌%◌, ◌≤◌, true, ◌++◌, length, drop, IfOk};
 ghost use Rattle.refusal.specs.Answers.{answer};
 ghost use Rattle.ihex.specs.Digits.{all_digits, bytes_of, total};
 ghost use Rattle.ihex.specs.Laws.{Canonical};
@@ -43,7 +43,7 @@ impl<'a> Digits<'a> {
         ensures few { IfOk result (λ n. n ≤ 128) }
         ensures long { IfOk result (λ n. length self.now.text.now ≡ 10 + 2 * n) }
     {
-        let count = byte_of(self.text[0], self.text[1]) as usize;
+        let count = usize::from(byte_of(self.text[0], self.text[1]));
         if count > MAX_DATA || self.text.len() != Record::SHORTEST - 1 + 2 * count {
             return Err(RecordFault::Count);
         }
@@ -58,6 +58,7 @@ impl<'a> Digits<'a> {
     {
         let (pairs, _) = self.text.as_chunks::<2>();
         let mut sum = 0u8;
+        // By index: of what is written through `iter_mut` a proof knows nothing.
         for (i, [high, low]) in pairs.iter().enumerate() {
             let b = byte_of(*high, *low);
             out[i] = b;
@@ -67,15 +68,18 @@ impl<'a> Digits<'a> {
     }
 }
 
-// The record of these bytes, of which `count` are data.
-fn find_record(count: usize, bytes: &[u8]) -> Result<Record, RecordFault>
-    requires { 4 + count ≤ length bytes.now }
-    ensures { answer content result ≡ record_in count bytes.now }
+// The record of the bytes of a line, whose count is that of its data.
+fn find_record(bytes: &[u8]) -> Result<Record, RecordFault>
+    requires { 5 ≤ length bytes.now }
+    ensures { answer content result ≡ record_in (length bytes.now - 5) bytes.now }
 {
-    let offset = u16::from_be_bytes([bytes[1], bytes[2]]);
-    match RecordType::try_from(bytes[3])? {
-        RecordType::Data => DataRecord::new(offset, &bytes[4..4 + count]).map(Record::Data),
-        RecordType::EndOfFile if count == 0 && offset == 0 => Ok(Record::End),
+    let [_, high, low, code, data @ .., _] = bytes else {
+        unreachable!()
+    };
+    let offset = u16::from_be_bytes([*high, *low]);
+    match RecordType::try_from(*code)? {
+        RecordType::Data => DataRecord::new(offset, data).map(Record::Data),
+        RecordType::EndOfFile if data.is_empty() && offset == 0 => Ok(Record::End),
         RecordType::EndOfFile => Err(RecordFault::Unknown),
     }
 }
@@ -88,11 +92,11 @@ impl Record {
     {
         let digits = Digits::find(text)?;
         let count = digits.count()?;
-        // in fixed memory, as large as any line needs; the front that is used is cut off below
+        // An array and not a string with a limit: that is made of a slice at once, and here byte by byte.
         let mut bytes = [0; Record::MAX_BYTES];
         if digits.decode(&mut bytes) != Record::TOTAL {
             return Err(RecordFault::Sum);
         }
-        find_record(count, &bytes[..5 + count])
+        find_record(&bytes[..5 + count])
     }
 }

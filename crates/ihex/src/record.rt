@@ -20,7 +20,7 @@ impl Record {
 }
 
 // The types of the two records, as a line has them.
-#[derive(Clone, Copy, PartialEq, Eq, Debug)]
+#[derive(Clone, Copy)]
 pub(crate) enum RecordType {
     Data = 0,
     EndOfFile = 1,

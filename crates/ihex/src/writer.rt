@@ -28,6 +28,7 @@ fn write_bytes(out: &mut [u8], at: usize, bytes: &[u8], start: u8) -> u8
     ensures out { out.new ≡ spelled out.old at bytes.now }
 {
     let mut sum = start;
+    // By index: tried with `chunks_exact_mut`, of whose pieces a proof does not know what was written to them.
     for (i, b) in bytes.iter().enumerate() {
         sum = write_byte(out, at + 2 * i, *b, sum);
     }
@@ -65,6 +66,7 @@ impl Record {
     }
 
     // Writes the record's line at the front of `out` and answers its length.
+    // A length, since a slice lent from `out` would leave the contract no word for what `out` then holds.
     // A buffer too short is left as it was.
     pub fn write(&self, out: &mut [u8]) -> Result<usize, BufferTooShort>
         ensures answer { result ≡ written (content self.now) out.old }

@@ -1,16 +1,10 @@
-use Rattle.std.proofs.Common.{◌≡◌, ◌+◌, take, sym, ap, ◌∙◌, arith}
+use Rattle.std.proofs.Common.{◌≡◌, ◌+◌, ◌-◌, length, take, sym, ap, ◌∙◌, arith}
 use Rattle.std.proofs.lemmas.List.{take_at}
 use Rattle.ihex.specs.Digits.{bytes_of}
-use Rattle.ihex.specs.Reading.{record_in}
 use Rattle.ihex.proofs.Inverse.{canonical}
-use Rattle.ihex.proofs.ReadSteps.{reading_bad_sum, reading_summed}
+use Rattle.ihex.proofs.ReadSteps.{reading_summed}
 use Rattle.ihex.proofs.Spelling.{length-bytes}
 use Rattle.ihex.proofs.record.Record.read.Goals as goal
-
-pub returns-then-decode-ne-TOTAL-clause-answer : goal.returns-then-decode-ne-TOTAL-clause-answer
-returns-then-decode-ne-TOTAL-clause-answer c =
-    sym (reading_bad_sum c.args.text.now c.in_ok-digits.digits.text.now c.in_ok-count.count c.in_ok-digits.ensures (sym c.in_ok-count.ensures.answer)
-    (λ h. c.if-decode-ne-TOTAL.true (c.decode.ensures.sum ∙ h)))
 
 pub returns : goal.returns
 returns c =
@@ -19,6 +13,7 @@ returns c =
     let n = c.in_ok-count.count in
     let part : take (5 + n) c.decode.new.out ≡ bytes_of ds =
     ap (take (5 + n)) c.decode.ensures.out ∙ take_at (bytes_of ds) _ (5 + n) (omega (arith, length-bytes ds, c.in_ok-count.ensures.long)) in
-    let answer = c.find_record.ensures ∙ ap (record_in n) part
+    let counted : length (bytes_of ds) - 5 ≡ n = omega (arith, length-bytes ds, c.in_ok-count.ensures.long) in
+    let answer = (rw (part, counted) at c.find_record.ensures)
     ∙ sym (reading_summed t ds n c.in_ok-digits.ensures (sym c.in_ok-count.ensures.answer) (sym c.decode.ensures.sum ∙ c.if-decode-ne-TOTAL.false)) in
     record { answer = answer; canonical = canonical t _ answer }
