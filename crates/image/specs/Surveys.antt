@@ -15,9 +15,13 @@ bytes_in end_of_file = 0
 abbrev pub nothing_yet : Survey
 nothing_yet = record { records = 0; bytes = 0; offsets = None; ended = false }
 
+-- the lowest and the highest of one
+abbrev pub only : ℕ → Offsets
+only offset = record { lowest = offset; highest = offset }
+
 -- the lowest and the highest offset, with one more
 abbrev pub widened : Option Offsets → ℕ → Offsets
-widened None offset = record { lowest = offset; highest = offset }
+widened None offset = only offset
 widened (Some o) offset = record { lowest = min o.lowest offset; highest = max o.highest offset }
 
 -- one record more

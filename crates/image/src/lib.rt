@@ -6,13 +6,15 @@ mod fault;
 mod line;
 mod offsets;
 mod page;
+mod records;
 mod refused;
 mod survey;
 
-pub use entry::{Entry, next_record};
+pub use entry::Entry;
 pub use fault::ImageFault;
 pub use line::{Line, next_line};
 pub use offsets::Offsets;
 pub use page::report;
+pub use records::next_record;
 pub use refused::Refused;
 pub use survey::Survey;

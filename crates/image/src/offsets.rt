@@ -1,6 +1,6 @@
 ghost use Rattle.std.specs.Prelude.{◌≡◌, Some};
 ghost use Rattle.image.specs.Prints.{offsets_text};
-ghost use Rattle.image.specs.Surveys.{widened};
+ghost use Rattle.image.specs.Surveys.{only, widened};
 
 use std::fmt;
 
@@ -11,20 +11,26 @@ pub struct Offsets {
     pub highest: u16,
 }
 
+impl From<u16> for Offsets {
+    ghost from_gives = { λ offset o. o ≡ only offset };
+
+    // Those of one record.
+    fn from(offset: u16) -> Offsets {
+        Offsets {
+            lowest: offset,
+            highest: offset,
+        }
+    }
+}
+
 impl Offsets {
-    // Those before, if there were any, and one more.
-    pub fn with(before: Option<Offsets>, offset: u16) -> Offsets
-        ensures { result ≡ widened before offset }
+    // These and one more.
+    pub fn with(self, offset: u16) -> Offsets
+        ensures { result ≡ widened (Some self) offset }
     {
-        match before {
-            None => Offsets {
-                lowest: offset,
-                highest: offset,
-            },
-            Some(Offsets { lowest, highest }) => Offsets {
-                lowest: lowest.min(offset),
-                highest: highest.max(offset),
-            },
+        Offsets {
+            lowest: self.lowest.min(offset),
+            highest: self.highest.max(offset),
         }
     }
 }

@@ -1,10 +1,10 @@
 ghost use Rattle.std.specs.Prelude.{◌≡◌, ◌+◌, ◌^◌, ◌<◌, Some};
 ghost use Rattle.ihex.specs.Meaning.{content};
-ghost use Rattle.image.specs.Prints.{survey_text};
+ghost use Rattle.image.specs.Prints.{offsets_text, survey_text};
 ghost use Rattle.image.specs.Surveys.{added, Accepts, Surveyed, bytes_in};
 
-use crate::entry::Records;
 use crate::offsets::Offsets;
+use crate::records::Records;
 use crate::refused::Refused;
 use ihex::Record;
 use std::fmt;
@@ -30,7 +30,11 @@ impl Survey {
             Record::Data(data) => {
                 self.records += 1;
                 self.bytes += data.data().len();
-                self.offsets = Some(Offsets::with(self.offsets, data.offset()));
+                let offset = data.offset();
+                self.offsets = Some(match self.offsets {
+                    None => Offsets::from(offset),
+                    Some(offsets) => offsets.with(offset),
+                });
             }
             Record::End => self.ended = true,
         }
@@ -50,26 +54,31 @@ impl Survey {
     }
 }
 
+// The offsets of a survey, printed also where there are none.
+#[derive(Clone, Copy)]
+struct Range(Option<Offsets>);
+
+impl fmt::Display for Range {
+    ghost output = { λ r. Some (offsets_text r.0) };
+
+    fn fmt<W: fmt::Write>(&self, f: &mut fmt::Formatter<W>) -> fmt::Result {
+        match self.0 {
+            Some(offsets) => write!(f, "{offsets}"),
+            None => write!(f, "offsets: none"),
+        }
+    }
+}
+
 impl fmt::Display for Survey {
     ghost output = { λ s. Some (survey_text s) };
 
     fn fmt<W: fmt::Write>(&self, f: &mut fmt::Formatter<W>) -> fmt::Result {
-        let Survey {
-            records,
-            bytes,
-            offsets,
-            ended,
-        } = *self;
-        let ended = if ended { "yes" } else { "no" };
-        match offsets {
-            Some(offsets) => write!(
-                f,
-                "data records: {records}\nbytes: {bytes}\n{offsets}\nend record: {ended}"
-            ),
-            None => write!(
-                f,
-                "data records: {records}\nbytes: {bytes}\noffsets: none\nend record: {ended}"
-            ),
-        }
+        let Survey { records, bytes, .. } = *self;
+        let offsets = Range(self.offsets);
+        let ended = if self.ended { "yes" } else { "no" };
+        write!(
+            f,
+            "data records: {records}\nbytes: {bytes}\n{offsets}\nend record: {ended}"
+        )
     }
 }
