@@ -11,3 +11,5 @@ never_reordered (skip (copy (skip w))) = elim w [ ]
 
 pub never_made_up : Worn {X = ℕ} (1 ∷ 2 ∷ []) (3 ∷ []) → ⊥
 never_made_up (skip (skip w)) = elim w [ ]
+
+pub ruleset copies = (lost_and_repeated, never_reordered, never_made_up)

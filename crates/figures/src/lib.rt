@@ -12,6 +12,7 @@ use ihex::{Record, RecordFault};
 const CELL_LINE: &[u8; 21] = b":05810000FED400140094";
 
 // Reads the first example of the table; its contract has the whole of it.
+#[tactic(auto, using(crate::proofs::Copies::copies))]
 pub fn worked_examples() -> Result<Record, RecordFault>
     ensures table { Figures }
     ensures first { answer content result ≡ Ok cell_section }

@@ -1,4 +1,3 @@
 pub mod Worns
-pub mod Taking
 pub mod Runs
 pub mod Drops

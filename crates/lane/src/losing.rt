@@ -4,7 +4,7 @@ use crate::interface::Lane;
 use crate::length::carries;
 use refusal::{BufferTooShort, UnsoundFrame};
 
-// A layer over any lane that drops every `every`-th accepted put; 0 drops none.
+// A layer over any lane that drops every `every`-th accepted put. Each of 0 to 255 is a k, and with 0 it drops none.
 #[derive(Drop)]
 pub struct Losing<L> {
     below: L,

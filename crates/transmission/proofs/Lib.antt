@@ -1,3 +1,4 @@
+pub mod Sends
 pub mod Progress
 pub mod Prompt
 pub mod Shares

@@ -40,15 +40,6 @@ module _ {S : Type 0} (lane : Lane S) where
     pub put : t.put + length rest ≤ length text
     pub each : t.taken + t.lost ≡ t.put
 
-  pub far_begins : {s : S} {text : List ℕ} {t : Traffic} {n : SequenceNumber} → (t.put ≡ 0) × ((t.taken ≡ 0) × (t.lost ≡ 0)) → number_of n ≡ 0 → SoFar s text t n text s
-  far_begins {s} {text} {t} {n} z h =
-      let e : t ≡ no_traffic = λ i. record { put = z.0 i; taken = z.1.0 i; lost = z.1.1 i } in
-      record {
-        whole = λ u s'' a. rw (h, e) at a;
-        put = omega arith;
-        each = omega arith;
-      }
-
   -- one record more
   more : (m s' s'' : S) (rest rest' xs : List ℕ) (t u : Traffic) (n : ℕ) (r : Content) (came : Bool) → Sound r → rest ≡ closed r ++ rest' → xs ≡ line r
       → SentOne lane m (frame (information n xs)) came s' → From (next_number n) (counted t came) s' rest' u s'' → From n t m rest u s''

@@ -9,6 +9,7 @@ use image::next_record;
 use lane::{Lane, MAX_FRAME, put_then_take};
 
 // Puts a line on a lane as an I frame, and answers whether a frame could then be taken.
+#[tactic(auto, using(crate::proofs::Sends::sent_one))]
 fn send<L: Lane>(lane: &mut L, number: SequenceNumber, line: &[u8]) -> bool
     requires { length line.now ≤ 267 }
     ensures { SentOne L.Lane lane.old (frame (information (number_of number) line.now)) result lane.new }
@@ -18,13 +19,9 @@ fn send<L: Lane>(lane: &mut L, number: SequenceNumber, line: &[u8]) -> bool
         number,
         information: line,
     };
-    let Ok(length) = frame.encode(&mut octets) else {
-        unreachable!()
-    };
+    let length = frame.encode(&mut octets).unwrap();
     let mut buffer = [0; MAX_FRAME];
-    let Ok(taken) = put_then_take(lane, &octets[..length], &mut buffer) else {
-        unreachable!()
-    };
+    let taken = put_then_take(lane, &octets[..length], &mut buffer).unwrap();
     taken.is_some()
 }
 

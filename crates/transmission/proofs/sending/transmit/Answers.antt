@@ -1,10 +1,7 @@
 use Rattle.std.proofs.Common.{rules}
 use Rattle.ihex.specs.Meaning.{content}
-use Rattle.transmission.proofs.Progress.{far_begins, far_on, far_ends}
+use Rattle.transmission.proofs.Progress.{far_on, far_ends}
 use Rattle.transmission.proofs.sending.transmit.Goals as goal
-
-pub loop-entry-init : goal.loop-entry-init
-loop-entry-init g c = far_begins _ c.default-traffic.ensures c.modulo-number.ensures
 
 pub loop-entry-preserved : goal.loop-entry-preserved
 loop-entry-preserved g c =
