@@ -4,7 +4,7 @@
 ghost use Rattle.std.specs.Prelude.{◌≤◌};
 
 // At most MAX bytes. They stand at the front of an array, with their count; no heap is used.
-// It is `Copy`, so that what holds it can be, and an array is filled with empty ones.
+// It is `Copy`, so that what holds it can be, and an array is filled with empty ones; the kit's `ArrayVec` is not.
 #[derive(Clone, Copy)]
 pub struct Bytes<const MAX: usize> {
     array: [u8; MAX],

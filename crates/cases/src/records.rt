@@ -12,7 +12,7 @@ use refusal::Refusal;
 use std::alloc::{AllocError, Global};
 use std::fmt;
 
-// A record in words.
+// A record in words. As in `frames`: a function over both would have a clause on what a type parameter prints, which is no plainer.
 #[derive(Clone, Copy)]
 struct Told(Record);
 

@@ -7,7 +7,7 @@ use crate::number::SequenceNumber;
 use refusal::UnsoundFrame;
 
 // What a control octet says.
-#[derive(Clone, Copy, PartialEq, Eq, Debug)]
+#[derive(Clone, Copy)]
 pub(crate) enum Control {
     // an I frame's is twice its number
     Information(SequenceNumber),

@@ -16,27 +16,21 @@ fn call<L: Lane>(heap: Global, lane: &mut L, word: &str) -> anyhow::Result<Strin
 }
 
 // The answers to these calls on one lane, in their order.
-fn calls<L: Lane>(heap: Global, lane: &mut L, words: &str) -> anyhow::Result<String> {
-    let mut answers = String::new(heap);
+pub(crate) fn over<L: Lane + Drop>(
+    heap: Global,
+    mut lane: L,
+    words: &str,
+) -> anyhow::Result<String> {
+    let mut answers = Vec::new(heap);
     for word in words.split(' ') {
-        let answer = call(heap, lane, word)?;
-        if !answers.is_empty() {
-            answers.push(' ')?;
-        }
-        answers.push_str(answer.as_str())?;
+        answers.push(call(heap, &mut lane, word)?)?;
     }
-    Ok(answers)
+    Ok(answers.join(heap, " ")?)
 }
 
-// A slot lane.
-pub(crate) fn over_slots(heap: Global, rest: &str) -> anyhow::Result<String> {
-    let mut lane = SlotLane::new();
-    calls(heap, &mut lane, rest)
-}
-
-// A losing layer over a slot lane.
+// The same of a losing layer over a slot lane; its k is the first word.
 pub(crate) fn over_losing(heap: Global, rest: &str) -> anyhow::Result<String> {
     let (every, words) = rest.split_once(' ').context("no calls")?;
-    let mut lane = Losing::new(SlotLane::new(), number(Some(every))?);
-    calls(heap, &mut lane, words)
+    let lane = Losing::new(SlotLane::new(), number(Some(every))?);
+    over(heap, lane, words)
 }

@@ -8,6 +8,7 @@ mod parsing;
 mod records;
 
 use anyhow::{Context, anyhow};
+use slots::SlotLane;
 use std::alloc::Global;
 use std::io::{BufRead, BufReader};
 
@@ -21,7 +22,7 @@ fn answer(heap: Global, case: &str) -> anyhow::Result<String> {
         "frame-decode" => frames::decode(heap, rest),
         "frame-information" => frames::encode_information(heap, rest),
         "frame-ready" => frames::encode_ready(heap, rest),
-        "lane-slots" => lanes::over_slots(heap, rest),
+        "lane-slots" => lanes::over(heap, SlotLane::new(), rest),
         "lane-losing" => lanes::over_losing(heap, rest),
         _ => Err(anyhow!("no such case")),
     }

@@ -40,5 +40,5 @@ where
 // A buffer of the length that a word says.
 pub(crate) fn buffer(heap: Global, word: Option<&str>) -> anyhow::Result<Vec<u8>> {
     let length: u16 = number(word)?;
-    Ok(vec![in heap; BLANK; length as usize]?)
+    Ok(vec![in heap; BLANK; usize::from(length)]?)
 }

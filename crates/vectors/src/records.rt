@@ -1,5 +1,5 @@
 use crate::parsing::{buffer, number, octets};
-use anyhow::anyhow;
+use anyhow::Context;
 use std::alloc::Global;
 
 pub(crate) fn read(heap: Global, rest: &str) -> anyhow::Result<String> {
@@ -12,11 +12,12 @@ pub(crate) fn read_padded(heap: Global, rest: &str) -> anyhow::Result<String> {
     let mut words = rest.split(' ');
     let mut text = octets(heap, words.next())?;
     let pad = octets(heap, words.next())?;
-    let length: usize = number(words.next())?;
-    let [pad] = pad.as_slice() else {
-        return Err(anyhow!("no single byte to add"));
-    };
-    text.resize(length.max(text.len()), *pad)?;
+    let length = words.next().context("a length is missing")?;
+    let length: usize = number(Some(length))?;
+    // A loop over a count: a resize takes one byte, and the word may have more or none.
+    for _ in text.len()..length {
+        text.extend_from_slice(pad.as_slice())?;
+    }
     Ok(cases::records::read(heap, text.as_slice())?)
 }
 
