@@ -12,7 +12,8 @@ use refusal::Refusal;
 use std::alloc::{AllocError, Global};
 use std::fmt;
 
-// A record in words. As in `frames`: a function over both would have a clause on what a type parameter prints, which is no plainer.
+// A record in words. As in `frames`, and not one type for both: `From` tells what a fault turns into by a relation, and a printed
+// text has to be a function of what is printed.
 #[derive(Clone, Copy)]
 struct Told(Record);
 

@@ -36,7 +36,8 @@ abbrev pub outcomes : List Layer → List (List ℕ) → List (Option (List ℕ)
 outcomes ls [] = []
 outcomes ls (f ∷ fs) = passed_on ls f ∷ outcomes (after ls) fs
 
--- the records at the front of a text, over these layers
+-- the records at the front of a text, over these layers; its first five fields are those of `Transmitted`, written out, since with a record
+-- of their own the check no longer finds that the trials meet their contract
 pub record Trial (ls : List Layer) (text : List ℕ) (t : Traffic) : Type 0 where
   pub records : List Content
   pub rest : List ℕ
