@@ -32,6 +32,7 @@ pub fn transmit<L: Lane>(lane: &mut L, text: &[u8]) -> Traffic
 {
     let mut traffic = Traffic::default();
     let mut number = SequenceNumber::modulo(0);
+    // What is left of the text, and no iterator: the loop then has one end, whether the text ends or a line is no record.
     let mut rest = text;
     while let Ok(entry) = next_record(rest) {
         let came = send(lane, number, entry.line);
