@@ -13,7 +13,7 @@ use refusal::Refusal;
 use std::alloc::{AllocError, Global};
 use std::fmt;
 
-// A frame in words.
+// A frame in words; the `Told` of `records` says why the two are not one.
 #[derive(Clone, Copy)]
 struct Told<'a>(Frame<'a>);
 

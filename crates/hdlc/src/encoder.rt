@@ -31,7 +31,7 @@ impl<'a> Frame<'a> {
     }
 
     // Writes the frame at the front of `out` and answers its length.
-    // A length, since a slice lent from `out` would leave the contract no word for what `out` then holds.
+    // A length, as std's own reads answer: a slice lent from `out` would need a clause on what `out` holds once it is given back.
     // A frame that is refused leaves the buffer as it was.
     pub fn encode(self, out: &mut [u8]) -> Result<usize, EncodeFault>
         ensures answer { result ≡ encoded (message_of self.entry) out.old }

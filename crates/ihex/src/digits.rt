@@ -3,7 +3,8 @@
 ghost use Rattle.std.specs.Prelude.{◌≡◌, ◌+◌, ◌*◌, ◌<◌, true, [], ◌∷◌};
 ghost use Rattle.ihex.specs.Digits.{digit, digits, is_digit, value, all_digits};
 
-// The character of a value below 16. By hand, here and in `value_of`: std's `from_digit` gives lower case, and its `to_digit` takes it.
+// The character of a value below 16. By hand, here and in `value_of`: std's `from_digit` and `to_digit` answer an `Option` of a lower-case
+// `char` and of a `u32`, and with the steps back to an upper-case byte they are longer than these.
 fn digit_of(n: u8) -> u8
     requires { n < 16 }
     ensures { result ≡ digit n }

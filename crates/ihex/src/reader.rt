@@ -58,7 +58,7 @@ impl<'a> Digits<'a> {
     {
         let (pairs, _) = self.text.as_chunks::<2>();
         let mut sum = 0u8;
-        // By index: of what is written through `iter_mut` a proof knows nothing.
+        // By index: tried with `iter_mut`, of which a proof does not know what was written through it.
         for (i, [high, low]) in pairs.iter().enumerate() {
             let b = byte_of(*high, *low);
             out[i] = b;
@@ -92,7 +92,7 @@ impl Record {
     {
         let digits = Digits::find(text)?;
         let count = digits.count()?;
-        // An array and not a string with a limit: that is made of a slice at once, and here byte by byte.
+        // In fixed memory, and a plain array: a string with a limit is made of a slice at once, and has no way to add a byte.
         let mut bytes = [0; Record::MAX_BYTES];
         if digits.decode(&mut bytes) != Record::TOTAL {
             return Err(RecordFault::Sum);

@@ -66,7 +66,7 @@ impl Record {
     }
 
     // Writes the record's line at the front of `out` and answers its length.
-    // A length, since a slice lent from `out` would leave the contract no word for what `out` then holds.
+    // A length, as std's own reads answer: a slice lent from `out` would need a clause on what `out` holds once it is given back.
     // A buffer too short is left as it was.
     pub fn write(&self, out: &mut [u8]) -> Result<usize, BufferTooShort>
         ensures answer { result ≡ written (content self.now) out.old }

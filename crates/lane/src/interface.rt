@@ -21,7 +21,7 @@ pub trait Lane {
         ensures exact { OnOk result (puts self.old frame.now self.new) };
 
     // Hands out the frame that comes next, at the front of a buffer of at least 269 octets, or nothing yet.
-    // It answers a length, since a slice lent from the buffer would leave the contract no word for what the buffer then holds.
+    // It answers a length, as std's own reads do: a slice lent from the buffer would need a clause on what the buffer holds once it is given back.
     fn take(&mut self, buffer: &mut [u8]) -> Result<Option<usize>, BufferTooShort>
         ensures list { Take (waiting self.old) buffer.old result (waiting self.new) buffer.new }
         ensures exact { IfOk result (λ o. Handed (λ h. takes self.old h self.new) o buffer.new) };

@@ -4,7 +4,8 @@ use crate::interface::Lane;
 use crate::length::carries;
 use refusal::{BufferTooShort, UnsoundFrame};
 
-// A layer over any lane that drops every `every`-th accepted put. Each of 0 to 255 is a k, and with 0 it drops none.
+// A layer over any lane that drops every `every`-th accepted put. Each of 0 to 255 is a k, and with 0 it drops none: an `Option<NonZeroU8>`
+// has the same values, and would be taken apart at each use.
 #[derive(Drop)]
 pub struct Losing<L> {
     below: L,
@@ -59,7 +60,7 @@ impl<L: Lane> Lane for Losing<L> {
 
     ghost carried = { λ s. L.carried s.below };
 
-    // The trait's clauses, written again since a further one stands beside them.
+    // An impl's own clauses replace the trait's, and with `stays` alone the check refuses it: so the trait's are written again.
     #[tactic(auto, using(crate::proofs::Worns::Worn_lost))]
     fn put(&mut self, frame: &[u8]) -> Result<(), UnsoundFrame>
         ensures list { Put (L.waiting self.old.below) frame.now result (L.waiting self.new.below) }

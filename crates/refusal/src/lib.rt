@@ -50,7 +50,7 @@ impl fmt::Display for Refusal {
     }
 }
 
-// Of these two a signature names the one that it can answer; one type with a parameter would say neither more nor less.
+// Two types of one form: a signature names the one error that its call can answer. As one type with a parameter the name would be longer.
 
 // A caller's buffer is shorter than what is to be written to it, so nothing is written.
 #[derive(Clone, Copy, PartialEq, Eq, Debug)]

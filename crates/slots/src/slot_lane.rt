@@ -30,7 +30,7 @@ impl SlotLane {
     }
 }
 
-// The trait's clauses are written again where a further one, `stays`, stands beside them.
+// An impl's own clauses replace the trait's, and with `stays` alone the check refuses it: so the trait's are written again.
 impl Lane for SlotLane {
     ghost use Rattle.std.specs.Prelude.{IfOk, OnErr, OnOk};
     ghost use Rattle.lane.specs.Calls.{Put, Take, Handed};

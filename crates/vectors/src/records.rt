@@ -14,10 +14,8 @@ pub(crate) fn read_padded(heap: Global, rest: &str) -> anyhow::Result<String> {
     let pad = octets(heap, words.next())?;
     let length = words.next().context("a length is missing")?;
     let length: usize = number(Some(length))?;
-    // A loop over a count: a resize takes one byte, and the word may have more or none.
-    for _ in text.len()..length {
-        text.extend_from_slice(pad.as_slice())?;
-    }
+    let missing = length.saturating_sub(text.len());
+    text.extend_from_slice(pad.as_slice().repeat(heap, missing)?.as_slice())?;
     Ok(cases::records::read(heap, text.as_slice())?)
 }
 
