@@ -1,16 +1,34 @@
 // Reading a record's line, one function for each step of the checks.
 
-ghost use Rattle.std.specs.Prelude.{◌≡◌, ◌+◌, ◌-◌, ◌*◌, ◌/◌, ◌%◌, ◌≤◌, true, ◌++◌, length, drop, IfOk};
+ghost use Rattle.std.specs.Prelude.{◌≡◌, ◌+◌, ◌-◌, ◌*◌, ◌/◌, ◌%◌, ◌<◌, ◌≤◌, true, ◌++◌, length, drop, IfOk};
 ghost use Rattle.refusal.specs.Answers.{answer};
-ghost use Rattle.ihex.specs.Digits.{all_digits, bytes_of, total};
+ghost use Rattle.ihex.specs.Digits.{is_digit, value, all_digits, bytes_of, total};
 ghost use Rattle.ihex.specs.Laws.{Canonical};
 ghost use Rattle.ihex.specs.Meaning.{content};
 ghost use Rattle.ihex.specs.Reading.{digits_in, counted, record_in, reading};
 
 use crate::data_record::{DataRecord, MAX_DATA};
-use crate::digits::{are_digits, byte_of};
+use crate::digits::are_digits;
 use crate::fault::RecordFault;
 use crate::record::{Record, RecordType};
+
+// The value of a digit.
+fn value_of(c: u8) -> u8
+    requires { is_digit c ≡ true }
+    ensures value { result ≡ value c }
+    ensures small { result < 16 }
+{
+    if c <= b'9' { c - b'0' } else { c - (b'A' - 10) }
+}
+
+// The byte of two digits, the high one first.
+fn byte_of(high: u8, low: u8) -> u8
+    requires high { is_digit high ≡ true }
+    requires low { is_digit low ≡ true }
+    ensures { result ≡ value high * 16 + value low }
+{
+    value_of(high) * 16 + value_of(low)
+}
 
 // The digits of a line: all upper case, and at least two for each of the five bytes of every record.
 #[derive(Clone, Copy)]

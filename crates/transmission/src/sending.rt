@@ -1,12 +1,30 @@
-ghost use Rattle.std.specs.Prelude.{◌≤◌, length};
+ghost use Rattle.std.specs.Prelude.{◌≡◌, ◌+◌, ◌^◌, ◌<◌, ◌≤◌, length};
 ghost use Rattle.hdlc.specs.Messages.{information, frame};
 ghost use Rattle.hdlc.specs.Numbers.{number_of};
 ghost use Rattle.transmission.specs.Sending.{SentOne, Transmitted};
+ghost use Rattle.transmission.specs.Tallies.{counted};
 
 use crate::traffic::Traffic;
 use hdlc::{Frame, SequenceNumber};
 use image::next_record;
 use lane::{Lane, MAX_FRAME, put_then_take};
+
+impl Traffic {
+    // Counts one put more, after which a frame came or did not.
+    fn count(&mut self, came: bool)
+        requires put { self.old.put + 1 < 2 ^ 64 }
+        requires taken { self.old.taken + 1 < 2 ^ 64 }
+        requires lost { self.old.lost + 1 < 2 ^ 64 }
+        ensures { self.new ≡ counted self.old came }
+    {
+        self.put += 1;
+        if came {
+            self.taken += 1;
+        } else {
+            self.lost += 1;
+        }
+    }
+}
 
 // Puts a line on a lane as an I frame, and answers whether a frame could then be taken.
 #[tactic(auto, using(crate::proofs::Sends::sent_one))]
