@@ -4,6 +4,7 @@ ghost use Rattle.std.specs.Prelude.{◌≡◌, [], Some};
 ghost use Rattle.std.specs.List.{AllByRecursion};
 ghost use Rattle.transmission.specs.Layers.{Trial, IsFresh, lost_of};
 ghost use Rattle.transmission.specs.Prints.{trials_text};
+ghost use Rattle.transmission.specs.Sending.{Transmitted};
 ghost use Rattle.transmission.specs.Tried.{Tried};
 
 use crate::sending::transmit;
@@ -13,8 +14,9 @@ use lane::Losing;
 use slots::SlotLane;
 use std::fmt;
 
-// Sends the records at the front of a text over a lane. The promises are of one in which nothing waits.
+// Sends the records at the front of a text over a lane. Over one in which nothing waits it is known what comes of each.
 pub fn over<L: Stack + Drop>(mut lane: L, text: &[u8]) -> Traffic
+    ensures sent { (left : L) × Transmitted L.Lane lane text.now result left }
     ensures trial { L.waiting lane ≡ [] → Trial (L.layers lane) text.now result }
     ensures lost { L.waiting lane ≡ [] → AllByRecursion IsFresh (L.layers lane) → result.lost ≡ lost_of (L.layers lane) result.put }
 {
