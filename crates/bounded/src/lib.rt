@@ -1,7 +1,7 @@
 // Strings of bytes with a stated limit, in fixed memory.
 #![tactic(auto)]
 
-ghost use Rattle.std.specs.Prelude.{◌≤◌};
+ghost use Rattle.std.specs.Prelude.{◌≡◌, ◌≤◌, length};
 
 // At most MAX bytes. They stand at the front of an array, with their count; no heap is used.
 // It is `Copy`, so that what holds it can be, and an array is filled with empty ones; the kit's `ArrayVec` is not.
@@ -10,10 +10,12 @@ pub struct Bytes<const MAX: usize> {
     array: [u8; MAX],
     len: usize,
     ghost few: { len ≤ MAX },
+    ghost room: { length array ≡ MAX },
 }
 
 impl<const MAX: usize> Bytes<MAX> {
-    ghost use Rattle.std.specs.Prelude.{◌≡◌, [], length, option_map};
+    ghost use Rattle.std.specs.Prelude.{[], is_some, option_map, unwrap_or};
+    ghost use Rattle.std.specs.Bool.{OnFalse};
     ghost use Rattle.bounded.specs.Held.{held, within};
 
     pub fn empty() -> Self
@@ -36,6 +38,20 @@ impl<const MAX: usize> Bytes<MAX> {
         let mut array = [0; MAX];
         array[..len].copy_from_slice(bytes);
         Some(Bytes { array, len })
+    }
+
+    // Holds these bytes from now on, and answers whether they fit; where they are more than MAX, it stays as it was.
+    pub fn fill(&mut self, bytes: &[u8]) -> bool
+        ensures fits { result ≡ is_some (within MAX bytes.now) }
+        ensures holds { held self.new ≡ unwrap_or (within MAX bytes.now) (held self.old) }
+        ensures stays { OnFalse result (self.new ≡ self.old) }
+    {
+        if bytes.len() > MAX {
+            return false;
+        }
+        self.len = bytes.len();
+        self.array[..bytes.len()].copy_from_slice(bytes);
+        true
     }
 
     pub fn as_slice(&self) -> &[u8]

@@ -3,7 +3,6 @@ ghost use Rattle.lane.specs.Carried.{all_carried};
 ghost use Rattle.slots.specs.Tables.{view, waits};
 
 use crate::table::Table;
-use bounded::Bytes;
 use lane::{Lane, MAX_FRAME, carries, holds_frames};
 use refusal::{BufferTooShort, UnsoundFrame};
 
@@ -53,7 +52,7 @@ impl Lane for SlotLane {
         if !carries(frame.len()) {
             return Err(UnsoundFrame);
         }
-        self.table.store(Bytes::from_slice(frame).unwrap());
+        self.table.store(frame);
         Ok(())
     }
 

@@ -29,10 +29,11 @@ fn place_after(place: usize, n: usize) -> usize
 }
 
 impl<const LONGEST: usize> Table<LONGEST> {
-    ghost use Rattle.std.specs.Prelude.{option_map, slice_set};
-    ghost use Rattle.std.specs.Borrow.{sem, follows};
+    ghost use Rattle.std.specs.Prelude.{⊤, MatchOption, option_map, slice_index_or, slice_set};
+    ghost use Rattle.std.specs.Borrow.{sem, follows, follows_so};
+    ghost use mathlib.Core.Option.{none};
     ghost use Rattle.slots.specs.Tables.{view, blank, Stores, HandsOut};
-    ghost use Rattle.bounded.specs.Held.{held};
+    ghost use Rattle.bounded.specs.Held.{held, within};
     ghost use Rattle.bounded.specs.contracts.Bytes.{the_row as place_row};
     ghost use Rattle.slots.specs.contracts.table.Table.{the_row};
 
@@ -49,34 +50,38 @@ impl<const LONGEST: usize> Table<LONGEST> {
     // One place, lent for writing; every other place, and which of them wait, stay.
     fn place(&mut self, i: usize) -> &mut Bytes<LONGEST>
         requires { i < 8 }
-        ensures* { sem 𝓛 (follows (the_row LONGEST.row) (place_row LONGEST.row) self.entry.ghost_name result.ghost_name (λ w. record self.old { places = slice_set self.old.places i w })) }
+        ensures* writes_back { sem 𝓛 (follows (the_row LONGEST.row) (place_row LONGEST.row) self.entry.ghost_name result.ghost_name (λ w. record self.old { places = slice_set self.old.places i w })) }
+        ensures value { result.now ≡ slice_index_or self.old.places i result.now }
     {
         &mut self.places[i]
     }
 
-    // Adds a frame, or loses it where all places are taken.
+    // Adds a frame, or loses it where all places are taken. One of over LONGEST octets changes nothing.
     #[tactic(auto, using(crate::proofs::Queues::filling))]
-    pub(crate) fn store(&mut self, frame: Bytes<LONGEST>)
-        ensures { Stores (view self.old) (held frame.entry) (view self.new) }
+    pub(crate) fn store(&mut self, frame: &[u8])
+        ensures { MatchOption (within LONGEST frame.now) (view self.new ≡ view self.old) (λ f. Stores (view self.old) f (view self.new)) }
     {
         if self.count < PLACES {
             let next = place_after(self.head, self.count);
-            *self.place(next) = frame;
-            self.count += 1;
+            if self.place(next).fill(frame) {
+                self.count += 1;
+            }
         }
     }
 
-    // Removes the oldest frame and hands it out.
+    // Removes the oldest frame and lends it out of its place, which stays as it is.
     #[tactic(auto, using(std::proofs::lemmas::Grind::common_steps, crate::proofs::Queues::from_first))]
-    pub(crate) fn hand_out(&mut self) -> Option<Bytes<LONGEST>>
-        ensures { HandsOut (view self.old) (option_map held result) (view self.new) }
+    pub(crate) fn hand_out(&mut self) -> Option<&Bytes<LONGEST>>
+        ensures* { sem 𝓛 (follows_so (the_row LONGEST.row) (the_row LONGEST.row) self.entry.ghost_name none (λ _ _. ⊤) (λ t. HandsOut (view self.old) (option_map (λ b. held b.now) result) (view t))) }
     {
         if self.count == 0 {
             return None;
         }
-        let frame = self.places[self.head];
+        let oldest = self.head;
         self.head = place_after(self.head, 1);
         self.count -= 1;
-        Some(frame)
+        // all places first: the check follows no `&` from `self` straight to an element
+        let places = &self.places;
+        Some(&places[oldest])
     }
 }
