@@ -1,7 +1,9 @@
 ghost use Rattle.std.specs.Prelude.{◌≡◌, ◌%◌, ◌<◌};
 
+use std::fmt;
+
 // A send number N(S) or a receive number N(R): one of 0 to 7.
-#[derive(Clone, Copy, PartialEq, Eq, Debug)]
+#[derive(Clone, Copy, PartialEq, Eq)]
 pub struct SequenceNumber {
     value: u8,
     ghost small: { value < 8 },
@@ -29,5 +31,12 @@ impl SequenceNumber {
         ensures { number_of result ≡ next_number (number_of self) }
     {
         SequenceNumber::modulo(self.value + 1)
+    }
+}
+
+impl fmt::Debug for SequenceNumber {
+    // N0 to N7.
+    fn fmt<W: fmt::Write>(&self, f: &mut fmt::Formatter<W>) -> fmt::Result {
+        write!(f, "N{}", self.value)
     }
 }

@@ -5,7 +5,7 @@ ghost use Rattle.image.specs.Surveys.{only, widened};
 use std::fmt;
 
 // The lowest and the highest offset of some data records.
-#[derive(Clone, Copy, PartialEq, Eq, Debug)]
+#[derive(Clone, Copy, PartialEq, Eq)]
 pub struct Offsets {
     pub lowest: u16,
     pub highest: u16,
@@ -45,5 +45,15 @@ impl fmt::Display for Offsets {
             f,
             "lowest offset: {lowest:04X}h\nhighest offset: {highest:04X}h"
         )
+    }
+}
+
+// As `Between`, a survey's offsets where there are some.
+impl fmt::Debug for Offsets {
+    fn fmt<W: fmt::Write>(&self, f: &mut fmt::Formatter<W>) -> fmt::Result {
+        f.debug_struct("Between")
+            .field("lowest", &self.lowest)
+            .field("highest", &self.highest)
+            .finish()
     }
 }

@@ -10,7 +10,7 @@ use ihex::Record;
 use std::fmt;
 
 // What a file holds in all.
-#[derive(Clone, Copy, PartialEq, Eq, Debug, Default)]
+#[derive(Clone, Copy, PartialEq, Eq, Default)]
 pub struct Survey {
     // data records, and the bytes in them
     pub records: usize,
@@ -66,6 +66,26 @@ impl fmt::Display for Range {
             Some(offsets) => write!(f, "{offsets}"),
             None => write!(f, "offsets: none"),
         }
+    }
+}
+
+impl fmt::Debug for Range {
+    fn fmt<W: fmt::Write>(&self, f: &mut fmt::Formatter<W>) -> fmt::Result {
+        match &self.0 {
+            Some(offsets) => fmt::Debug::fmt(offsets, f),
+            None => f.write_str("None"),
+        }
+    }
+}
+
+impl fmt::Debug for Survey {
+    fn fmt<W: fmt::Write>(&self, f: &mut fmt::Formatter<W>) -> fmt::Result {
+        f.debug_struct("Survey")
+            .field("records", &self.records)
+            .field("bytes", &self.bytes)
+            .field("offsets", &Range(self.offsets))
+            .field("ended", &self.ended)
+            .finish()
     }
 }
 
