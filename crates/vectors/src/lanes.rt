@@ -21,11 +21,15 @@ pub(crate) fn over<L: Lane + Drop>(
     mut lane: L,
     words: &str,
 ) -> anyhow::Result<String> {
-    let mut answers = Vec::new(heap);
+    let mut answers = String::new(heap);
     for word in words.split(' ') {
-        answers.push(call(heap, &mut lane, word)?)?;
+        let answer = call(heap, &mut lane, word)?;
+        if !answers.is_empty() {
+            answers.push(' ')?;
+        }
+        answers.push_str(answer.as_str())?;
     }
-    Ok(answers.join(heap, " ")?)
+    Ok(answers)
 }
 
 // The same of a losing layer over a slot lane; its k is the first word.

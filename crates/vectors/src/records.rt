@@ -15,7 +15,8 @@ pub(crate) fn read_padded(heap: Global, rest: &str) -> anyhow::Result<String> {
     let length = words.next().context("a length is missing")?;
     let length: usize = number(Some(length))?;
     let missing = length.saturating_sub(text.len());
-    text.extend_from_slice(pad.as_slice().repeat(heap, missing)?.as_slice())?;
+    let pads = missing.saturating_mul(pad.len());
+    text.extend(pad.iter().cycle().take(pads))?;
     Ok(cases::records::read(heap, text.as_slice())?)
 }
 
