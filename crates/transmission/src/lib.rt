@@ -9,4 +9,4 @@ mod trials;
 pub use sending::transmit;
 pub use stack::Stack;
 pub use traffic::Traffic;
-pub use trials::{Trials, over};
+pub use trials::{Trials, over, over_losing, over_slots, over_two};

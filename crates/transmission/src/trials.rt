@@ -1,8 +1,8 @@
 // Trials of the lanes that there are, each from the beginning.
 
-ghost use Rattle.std.specs.Prelude.{◌≡◌, [], Some};
+ghost use Rattle.std.specs.Prelude.{◌≡◌, [], ◌∷◌, Some};
 ghost use Rattle.std.specs.List.{AllByRecursion};
-ghost use Rattle.transmission.specs.Layers.{Trial, IsFresh, lost_of};
+ghost use Rattle.transmission.specs.Layers.{Trial, IsFresh, fresh, kth_of, lost_of};
 ghost use Rattle.transmission.specs.Prints.{trials_text};
 ghost use Rattle.transmission.specs.Sending.{Transmitted};
 ghost use Rattle.transmission.specs.Tried.{Tried};
@@ -21,6 +21,33 @@ pub fn over<L: Stack + Drop>(mut lane: L, text: &[u8]) -> Traffic
     ensures lost { L.waiting lane ≡ [] → AllByRecursion IsFresh (L.layers lane) → result.lost ≡ lost_of (L.layers lane) result.put }
 {
     transmit(&mut lane, text)
+}
+
+// Over a slot lane.
+pub fn over_slots(text: &[u8]) -> Traffic
+    ensures trial { Trial [] text.now result }
+    ensures none_lost { result.lost ≡ 0 }
+{
+    over(SlotLane::new(), text)
+}
+
+// Over a layer that drops every `every`-th put.
+pub fn over_losing(text: &[u8], every: u8) -> Traffic
+    ensures trial { Trial (fresh every ∷ []) text.now result }
+    ensures every_kth_lost { result.lost ≡ kth_of every result.put }
+{
+    over(Losing::new(SlotLane::new(), every), text)
+}
+
+// Over two such layers.
+pub fn over_two(text: &[u8], outer: u8, inner: u8) -> Traffic
+    ensures trial { Trial (fresh outer ∷ fresh inner ∷ []) text.now result }
+    ensures shares_lost { result.lost ≡ lost_of (fresh outer ∷ fresh inner ∷ []) result.put }
+{
+    over(
+        Losing::new(Losing::new(SlotLane::new(), inner), outer),
+        text,
+    )
 }
 
 // The puts that the layers drop: the inner one every 10th, the outer one every 7th.
@@ -45,12 +72,9 @@ impl Trials {
         ensures { Tried text.now result }
     {
         Trials {
-            slots: over(SlotLane::new(), text),
-            losing: over(Losing::new(SlotLane::new(), INNER), text),
-            layered: over(
-                Losing::new(Losing::new(SlotLane::new(), INNER), OUTER),
-                text,
-            ),
+            slots: over_slots(text),
+            losing: over_losing(text, INNER),
+            layered: over_two(text, OUTER, INNER),
         }
     }
 }
