@@ -14,9 +14,12 @@ pub(crate) fn read_padded(heap: Global, rest: &str) -> anyhow::Result<String> {
     let pad = octets(heap, words.next())?;
     let length = words.next().context("a length is missing")?;
     let length: usize = number(Some(length))?;
-    let missing = length.saturating_sub(text.len());
-    let pads = missing.saturating_mul(pad.len());
-    text.extend(pad.iter().cycle().take(pads))?;
+    if !pad.is_empty() {
+        // In place, and a pad at once: the library's `repeat` makes the padding apart, and byte by byte a long pad takes many times as long.
+        for _ in text.len()..length {
+            text.extend_from_slice(pad.as_slice())?;
+        }
+    }
     Ok(cases::records::read(heap, text.as_slice())?)
 }
 
