@@ -88,9 +88,9 @@ shaped (a ∷ b ∷ c ∷ d ∷ R) n r hY l e z h =
     let full : R ≡ D ++ s ∷ [] = sym (take_all (n + 1) R (omega arith)) ∙ take_more R n 0 (omega arith) in
     let lD : length D ≡ n = omega (arith, ap length full, length-append D (s ∷ [])) in
     let F : a ∷ b ∷ c ∷ d ∷ D ≡ fields r =
-    ap (λ x. x ∷ b ∷ c ∷ d ∷ D) e ∙ fields_told n b c d D r (octets_at Y 1 hY (omega arith)) (octets_at Y 2 hY (omega arith)) lD h in
+    ap (λ x. x ∷ b ∷ c ∷ d ∷ D) e ∙ fields_told n b c d D r (octets_at Y 1 hY) (octets_at Y 2 hY) lD h in
     let Ye : Y ≡ (a ∷ b ∷ c ∷ d ∷ D) ++ s ∷ [] = ap (λ xs. a ∷ b ∷ c ∷ d ∷ xs) full in
-    let fs : s < 256 = octets_at Y (suc (suc (suc (suc n)))) hY (omega arith) in
+    let fs : s < 256 = octets_at Y (suc (suc (suc (suc n)))) hY in
     let zero : (total (fields r) + s) % 256 ≡ 0 =
     omega (arith, z, ap total Ye, total-append (a ∷ b ∷ c ∷ d ∷ D) (s ∷ []), ap total F) in
     Ye ∙ ap₂ (λ xs x. xs ++ x ∷ []) F (sum_byte_alone (fields r) s fs zero)

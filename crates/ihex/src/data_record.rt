@@ -9,10 +9,11 @@ use bounded::Bytes;
 pub const MAX_DATA: usize = 128;
 
 // A data record: 1 to 128 bytes, and the offset at which they lie.
+// The offset stands last: before the bytes, padding would follow it and be copied with them, by a call for each copy.
 #[derive(Clone, Copy)]
 pub struct DataRecord {
-    offset: u16,
     data: Bytes<MAX_DATA>,
+    offset: u16,
     ghost fits: { offset < 2 ^ 16 },
     ghost some: { 1 ≤ length (held «data») },
     ghost narrow: { octets (held «data») ≡ true },
@@ -27,13 +28,11 @@ impl DataRecord {
     pub fn new(offset: u16, data: &[u8]) -> Result<Self, RecordFault>
         ensures { answer data_content result ≡ data_record offset «data».now }
     {
-        match Bytes::from_slice(data) {
-            Some(bytes) if !data.is_empty() => Ok(DataRecord {
-                offset,
-                data: bytes,
-            }),
-            _ => Err(RecordFault::Unknown),
+        if data.is_empty() {
+            return Err(RecordFault::Unknown);
         }
+        let data = Bytes::from_slice(data).ok_or(RecordFault::Unknown)?;
+        Ok(DataRecord { data, offset })
     }
 
     pub fn offset(&self) -> u16

@@ -23,7 +23,7 @@ pub fn digits_of(b: u8) -> [u8; 2]
 fn is_upper_digit(c: u8) -> bool
     ensures { result ≡ is_digit c }
 {
-    matches!(c, b'0'..=b'9' | b'A'..=b'F')
+    c.is_ascii_digit() || (b'A'..=b'F').contains(&c)
 }
 
 // Whether all characters are upper-case digits.

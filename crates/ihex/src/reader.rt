@@ -96,7 +96,7 @@ fn find_record(bytes: &[u8]) -> Result<Record, RecordFault>
     };
     let offset = u16::from_be_bytes([*high, *low]);
     match RecordType::try_from(*code)? {
-        RecordType::Data => DataRecord::new(offset, data).map(Record::Data),
+        RecordType::Data => Ok(Record::Data(DataRecord::new(offset, data)?)),
         RecordType::EndOfFile if data.is_empty() && offset == 0 => Ok(Record::End),
         RecordType::EndOfFile => Err(RecordFault::Unknown),
     }

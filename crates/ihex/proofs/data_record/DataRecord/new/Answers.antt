@@ -7,5 +7,5 @@ use Rattle.ihex.proofs.data_record.DataRecord.new.Goals as goal
 
 pub invariant_of-result-clause-narrow : goal.invariant_of-result-clause-narrow
 invariant_of-result-clause-narrow c =
-    let same : held c.in-Some.bytes ≡ c.args.data.now = grind (arith, nat_tests) in
+    let same : held c.in_ok-data.data ≡ c.args.data.now = grind (arith, nat_tests) in
     ap octets same ∙ octets_from c.args.data.now (λ i. (c.type_inv.data i).fits)
