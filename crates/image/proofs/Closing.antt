@@ -1,5 +1,5 @@
 -- the search for a line's CR LF
-use Rattle.std.proofs.Common.{◌≡◌, ℕ, zero, suc, ◌+◌, ◌<◌, ◌≤◌, ltb, List, [], ◌∷◌, ◌++◌, take, drop, Some, None, Ok, Err, Option, slice_index, MatchOption, refl, ap, ◌∙◌, arith}
+use Rattle.std.proofs.Common.{◌≡◌, ℕ, zero, suc, ◌+◌, ◌-◌, ◌<◌, ◌≤◌, ltb, min, List, [], ◌∷◌, ◌++◌, length, take, drop, Some, None, Ok, Err, Option, slice_index, MatchOption, refl, ap, ◌∙◌, arith}
 use Rattle.std.proofs.lemmas.Bool.{cond-true, cond-false, lt-ltb, le-ltb}
 use Rattle.std.proofs.lemmas.Grind.{common_steps}
 use Rattle.std.proofs.lemmas.Bool.Decides.{nat_tests}
@@ -48,3 +48,27 @@ line_found t i cr lf h few = ap (cut_at t) (close_found t i cr lf h) ∙ cond-fa
 
 pub line_missing : (t : List ℕ) → NoneBefore t 268 → first_line t ≡ Err Line
 line_missing t h = cut_far t (close t) (close_far t 268 h)
+
+-- a search over the places of a line
+abbrev pub CrLf : List ℕ → ℕ → Type 0
+CrLf t i = (slice_index t i ≡ 13) × (slice_index t (i + 1) ≡ 10)
+
+pub record EndsLine (t : List ℕ) (i : ℕ) : Type 0 where
+  pub within : i + 2 ≤ length t
+  pub whole : t ≡ take i t ++ 13 ∷ 10 ∷ drop (i + 2) t
+  pub line : first_line t ≡ Ok (record { line = take i t; rest = drop (i + 2) t })
+
+inside : (t : List ℕ) (i : ℕ) → slice_index t i ≡ 10 → i < length t
+inside [] i h = absurd (omega arith)
+inside (c ∷ t) zero h = omega arith
+inside (c ∷ t) (suc i) h = let l = inside t i h in omega arith
+
+pub searched : (t : List ℕ) (n : ℕ) (o : Option ℕ) → n ≡ min (length t - 1) 268
+    → MatchOption o ((k : ℕ) → 0 ≤ k → k < n → CrLf t k → ⊥) (λ i. (0 ≤ i) × (i < n) × CrLf t i × ((k : ℕ) → 0 ≤ k → k < i → CrLf t k → ⊥))
+    → MatchOption o (first_line t ≡ Err Line) (EndsLine t)
+searched t n None e h = line_missing t (λ k l cr lf. h k (omega arith) (omega (arith, e, inside t (k + 1) lf)) (cr, lf))
+searched t n (Some i) e (_, l, (cr, lf), first) = record {
+  within = omega (arith, e, l);
+  whole = line_splits t i cr lf;
+  line = line_found t i cr lf (λ k m cr' lf'. first k (omega arith) m (cr', lf')) (omega (arith, e, l));
+}

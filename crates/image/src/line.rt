@@ -5,6 +5,10 @@ ghost use Rattle.image.specs.Views.{cut_of};
 
 use crate::fault::ImageFault;
 
+const CR: u8 = b'\r';
+
+const LF: u8 = b'\n';
+
 // The most characters before a line's CR LF: those of a record with the most data.
 pub const MAX_LINE: usize = 267;
 
@@ -21,11 +25,9 @@ pub fn next_line(text: &[u8]) -> Result<Line<'_>, ImageFault>
     ensures whole { IfOk result (λ l. text.now ≡ l.text.now ++ 13 ∷ 10 ∷ l.rest.now) }
     ensures few { IfOk result (λ l. length l.text.now ≤ 267) }
 {
-    let Some(end) = text
-        .windows(2)
-        .take(MAX_LINE + 1)
-        .position(|pair| matches!(pair, b"\r\n"))
-    else {
+    // By place: tried with `windows(2)` and `take`, which make two tests more at each character and take half as long again.
+    let places = text.len().saturating_sub(1).min(MAX_LINE + 1);
+    let Some(end) = (0..places).find(|&i| text[i] == CR && text[i + 1] == LF) else {
         return Err(ImageFault::Line);
     };
     Ok(Line {
