@@ -1,4 +1,4 @@
-use Rattle.std.proofs.Common.{◌≡◌, ◌+◌, take, Ok, Err, MatchOption, min, sym, ap, ◌∙◌, arith, rules, tests}
+use Rattle.std.proofs.Common.{◌≡◌, ◌+◌, take, Ok, Err, MatchOption, sym, ap, ◌∙◌, arith, rules, tests}
 use Rattle.std.proofs.lemmas.Iterator.{first_from_Range}
 use Rattle.std.proofs.lemmas.List.{get_or_read, length-take-le, take_rest}
 use Rattle.image.specs.Lines.{first_line}
@@ -10,7 +10,7 @@ use Rattle.image.proofs.line.next_line.Goals.{After-find}
 found : (c : After-find) → MatchOption c.find.result (first_line c.args.text.now ≡ Err Line) (EndsLine c.args.text.now)
 found c =
     let t = c.args.text.now in
-    searched t c.min-places.result c.find.result (c.min-places.ensures ∙ ap (λ n. min n 268) c.saturating_sub.ensures)
+    searched t c.min-places.result c.find.result (omega (arith, c.min-places.ensures, c.saturating_sub.ensures))
     (first_from_Range _ _ _ _ (CrLf t) (λ i. CrLf t i → ⊥) c.find.ensures.ran
     (λ x q k. (grind (arith, tests, get_or_read), grind (arith, tests, get_or_read)))
     (λ x q k. (search rules, grind (arith, tests, get_or_read))))
@@ -24,7 +24,7 @@ slice_bounds-result-end c =
     sym (length-take-le c.in-Some.end c.args.text.now (omega (arith, e.within)))
 
 pub slice_bounds-result-count : goal.slice_bounds-result-count
-slice_bounds-result-count c = (rw c.in-Some.is at (found (goal.at.slice_bounds-result-count c).After-find)).within
+slice_bounds-result-count c = omega (arith, (rw c.in-Some.is at (found (goal.at.slice_bounds-result-count c).After-find)).within)
 
 pub slice_bounds-result-start : goal.slice_bounds-result-start
 slice_bounds-result-start c = let e = (rw c.in-Some.is at (found (goal.at.slice_bounds-result-start c).After-find)).within in search rules
