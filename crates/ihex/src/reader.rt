@@ -95,11 +95,12 @@ fn find_record(bytes: &[u8]) -> Result<Record, RecordFault>
         unreachable!()
     };
     let offset = u16::from_be_bytes([*high, *low]);
-    match RecordType::try_from(*code)? {
-        RecordType::Data => Ok(Record::Data(DataRecord::new(offset, data)?)),
-        RecordType::EndOfFile if data.is_empty() && offset == 0 => Ok(Record::End),
-        RecordType::EndOfFile => Err(RecordFault::Unknown),
-    }
+    let data = match RecordType::try_from(*code)? {
+        RecordType::Data => DataRecord::new(offset, data)?,
+        RecordType::EndOfFile if data.is_empty() && offset == 0 => return Ok(Record::End),
+        RecordType::EndOfFile => return Err(RecordFault::Unknown),
+    };
+    Ok(Record::Data(data))
 }
 
 impl Record {
